@@ -1,0 +1,6 @@
+pub mod Tests
+pub mod BitLaws
+pub mod WordLaws
+pub mod WithBit
+pub mod AllBelow
+pub mod LittleEndianLaws

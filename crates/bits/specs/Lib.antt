@@ -1,0 +1,3 @@
+-- The vocabulary of words and bytes that every other crate's definitions use.
+pub mod Words
+pub mod LittleEndian

@@ -1,0 +1,4 @@
+pub mod Scan
+pub mod TableTest
+pub mod FieldLaws
+pub mod WriteLaws

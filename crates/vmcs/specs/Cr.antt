@@ -1,0 +1,31 @@
+-- The guest's CR0 and CR4 under the fixed bits of the processor (`set_cr`; SDM 3D, A.7 and A.8). Assumes nothing.
+use Prim.Native.Nat.{ℕ}
+use lib.Bits.{bitAnd, bitOr}
+use Rattle.bits.specs.Words.{bitNot}
+use Rattle.vmcs.specs.Flags.Cr0Flags as Cr0Flags
+use Rattle.vmcs.specs.Flags.Cr4Flags as Cr4Flags
+use Rattle.vmcs.specs.declared.controls.CrWords.{CrWords}
+
+-- the value under the bits that may be 1 (must0) and those that must be 1 (must1), the read shadow, and the guest/host mask, at 64 bits
+abbrev pub crWords : ℕ → ℕ → ℕ → CrWords
+crWords must0 must1 val =
+    record { value = bitOr (bitAnd val must0) must1; shadow = val; mask = bitOr must1 (bitNot 64 must0) }
+
+-- what the guest chooses freely in CR0, since unrestricted guest is on
+abbrev pub cr0Free : ℕ
+cr0Free = bitOr Cr0Flags.PAGING Cr0Flags.PROTECTED_MODE_ENABLE
+
+-- what is kept off in CR0, since an exit does not update it
+abbrev pub cr0Off : ℕ
+cr0Off = bitOr Cr0Flags.NOT_WRITE_THROUGH Cr0Flags.CACHE_DISABLE
+
+abbrev pub cr0Words : ℕ → ℕ → ℕ → CrWords
+cr0Words fixed0 fixed1 val = crWords (bitAnd fixed1 (bitNot 64 cr0Off)) (bitAnd fixed0 (bitNot 64 cr0Free)) val
+
+-- VMXE is always set
+abbrev pub cr4Words : ℕ → ℕ → ℕ → CrWords
+cr4Words fixed0 fixed1 val = crWords fixed1 fixed0 (bitOr val Cr4Flags.VIRTUAL_MACHINE_EXTENSIONS)
+
+-- the first CR0 of a guest: NW, CD and ET
+abbrev pub firstCr0 : ℕ
+firstCr0 = bitOr (bitOr Cr0Flags.NOT_WRITE_THROUGH Cr0Flags.CACHE_DISABLE) Cr0Flags.EXTENSION_TYPE

@@ -1,0 +1,56 @@
+-- The fields of VmcsControl32: each with its place in the array of its width. Assumes nothing.
+use Rattle.vmcs.specs.Field.{Field, Word32}
+
+abbrev pub PINBASED_EXEC_CONTROLS : Field
+PINBASED_EXEC_CONTROLS = Word32 0
+
+abbrev pub PRIMARY_PROCBASED_EXEC_CONTROLS : Field
+PRIMARY_PROCBASED_EXEC_CONTROLS = Word32 1
+
+abbrev pub EXCEPTION_BITMAP : Field
+EXCEPTION_BITMAP = Word32 2
+
+abbrev pub PAGE_FAULT_ERR_CODE_MASK : Field
+PAGE_FAULT_ERR_CODE_MASK = Word32 3
+
+abbrev pub PAGE_FAULT_ERR_CODE_MATCH : Field
+PAGE_FAULT_ERR_CODE_MATCH = Word32 4
+
+abbrev pub CR3_TARGET_COUNT : Field
+CR3_TARGET_COUNT = Word32 5
+
+abbrev pub VMEXIT_CONTROLS : Field
+VMEXIT_CONTROLS = Word32 6
+
+abbrev pub VMEXIT_MSR_STORE_COUNT : Field
+VMEXIT_MSR_STORE_COUNT = Word32 7
+
+abbrev pub VMEXIT_MSR_LOAD_COUNT : Field
+VMEXIT_MSR_LOAD_COUNT = Word32 8
+
+abbrev pub VMENTRY_CONTROLS : Field
+VMENTRY_CONTROLS = Word32 9
+
+abbrev pub VMENTRY_MSR_LOAD_COUNT : Field
+VMENTRY_MSR_LOAD_COUNT = Word32 10
+
+abbrev pub VMENTRY_INTERRUPTION_INFO_FIELD : Field
+VMENTRY_INTERRUPTION_INFO_FIELD = Word32 11
+
+abbrev pub VMENTRY_EXCEPTION_ERR_CODE : Field
+VMENTRY_EXCEPTION_ERR_CODE = Word32 12
+
+abbrev pub VMENTRY_INSTRUCTION_LEN : Field
+VMENTRY_INSTRUCTION_LEN = Word32 13
+
+abbrev pub TPR_THRESHOLD : Field
+TPR_THRESHOLD = Word32 14
+
+abbrev pub SECONDARY_PROCBASED_EXEC_CONTROLS : Field
+SECONDARY_PROCBASED_EXEC_CONTROLS = Word32 15
+
+abbrev pub PLE_GAP : Field
+PLE_GAP = Word32 16
+
+abbrev pub PLE_WINDOW : Field
+PLE_WINDOW = Word32 17

@@ -1,0 +1,164 @@
+// The VMCS: its fields, control words, control registers and exit words.
+// Ported from x86_vcpu src/vmx/vmcs.rs (Copyright 2025 The Axvisor Team, Apache-2.0). Changed: fields are values in four arrays
+// and not reached by vmread and vmwrite, and what the Rust panics at is refused by a number.
+ghost use mathlib.Core.Path.{_≡_};
+ghost use Prim.Native.Nat.{_<_, _^_, _-_};
+ghost use Rattle.vmcs.specs.Field.{widthBits, valueOf, put};
+ghost use Rattle.vmcs.specs.Named.{encodings};
+ghost use Rattle.vmcs.specs.Fields.{positionOf, fieldAt, widthOf, greatestOf, readOnly, vmcsRead, vmcsWrite};
+
+pub mod controls;
+pub mod flags;
+pub mod names;
+pub mod table;
+
+use table::ENCODINGS;
+
+// The fields by width, each array in ascending order of encoding.
+pub struct Vmcs {
+    pub w16: [u16; 17],
+    pub w32: [u32; 50],
+    pub w64: [u64; 41],
+    pub natural: [u64; 46],
+}
+
+// What a field holds, or the number of the refusal.
+pub enum FieldAnswer {
+    Value(u64),
+    Refused(u32),
+}
+
+// The fields after a write: as they were where it is refused.
+pub struct Written {
+    pub refusal: u32,
+    pub vmcs: Vmcs,
+}
+
+// The place of an encoding in the table, or 154 where it has none.
+fn position(encoding: u64) -> usize
+    ensures { λ r. ⌜ r ≡ positionOf encodings encoding ⌝ }
+{
+    let mut i: usize = 0;
+    while i < 154 {
+        if ENCODINGS[i] == encoding {
+            return i;
+        }
+        i += 1;
+    }
+    i
+}
+
+// The width in bits of the fields of an encoding: bits 13 to 14 (SDM 3D, appendix B). The natural width is 64.
+pub fn width_of(encoding: u64) -> u32
+    ensures { λ r. ⌜ r ≡ widthOf encoding ⌝ }
+{
+    let width = (encoding >> 13) % 4;
+    if width == 0 {
+        return 16;
+    }
+    if width == 2 {
+        return 32;
+    }
+    64
+}
+
+// The greatest number that a field of an encoding holds.
+fn greatest_of(encoding: u64) -> u64
+    ensures { λ r. ⌜ r ≡ greatestOf encoding ⌝ }
+{
+    let width = width_of(encoding);
+    if width == 16 {
+        return 0xFFFF;
+    }
+    if width == 32 {
+        return 0xFFFF_FFFF;
+    }
+    0xFFFF_FFFF_FFFF_FFFF
+}
+
+// Kind 1, bits 10 to 11, is read-only.
+fn read_only(encoding: u64) -> bool
+    ensures { λ r. ⌜ r ≡ readOnly encoding ⌝ }
+{
+    (encoding >> 10) % 4 == 1
+}
+
+// What the field at a place of the table holds.
+fn value_at(v: Vmcs, place: usize) -> u64
+    requires { ⌜ place < 154 ⌝ }
+    ensures { λ r. ⌜ r ≡ valueOf v (fieldAt place) ⌝ }
+{
+    if place < 17 {
+        return v.w16[place] as u64;
+    }
+    if place < 58 {
+        return v.w64[place - 17];
+    }
+    if place < 108 {
+        return v.w32[place - 58] as u64;
+    }
+    v.natural[place - 108]
+}
+
+// The fields with a value in the one at a place of the table.
+fn put_at(v: Vmcs, place: usize, value: u64) -> Vmcs
+    requires { ⌜ (place < 154) × (value < 2 ^ widthBits (fieldAt place)) ⌝ }
+    ensures { λ r. ⌜ r ≡ put v (fieldAt place) value ⌝ }
+{
+    let mut next = v;
+    if place < 17 {
+        next.w16[place] = value as u16;
+        return next;
+    }
+    if place < 58 {
+        next.w64[place - 17] = value;
+        return next;
+    }
+    if place < 108 {
+        next.w32[place - 58] = value as u32;
+        return next;
+    }
+    next.natural[place - 108] = value;
+    next
+}
+
+// A field by its encoding. Refusal 3: no such encoding.
+pub fn vmcs_read(v: Vmcs, encoding: u64) -> FieldAnswer
+    ensures { λ r. ⌜ r ≡ vmcsRead v encoding ⌝ }
+{
+    let place = position(encoding);
+    if place < 154 {
+        return FieldAnswer::Value(value_at(v, place));
+    }
+    FieldAnswer::Refused(3)
+}
+
+// The fields with a value in one of them. Refusals: 3, no such encoding; 4, read-only; 5, the value is wider than the field.
+pub fn vmcs_write(v: Vmcs, encoding: u64, value: u64) -> Written
+    ensures { λ r. ⌜ r ≡ vmcsWrite v encoding value ⌝ }
+{
+    let place = position(encoding);
+    if 154 <= place {
+        return Written {
+            refusal: 3,
+            vmcs: v,
+        };
+    }
+    if read_only(encoding) {
+        return Written {
+            refusal: 4,
+            vmcs: v,
+        };
+    }
+    if greatest_of(encoding) < value {
+        return Written {
+            refusal: 5,
+            vmcs: v,
+        };
+    }
+    let next = put_at(v, place, value);
+    Written {
+        refusal: 0,
+        vmcs: next,
+    }
+}

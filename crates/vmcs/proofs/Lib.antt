@@ -2,3 +2,5 @@ pub mod Scan
 pub mod TableTest
 pub mod FieldLaws
 pub mod WriteLaws
+pub mod ControlLaws
+pub mod CrLaws

@@ -39,13 +39,21 @@ pub record Accepted (allowed0 allowed1 old set clear word : ℕ) : Type 0 where
   pub is-clear : Apart clear word
   pub kept : (i : ℕ) → T (bit i allowed1) → (T (bit i allowed0) → ⊥) → (T (bit i set) → ⊥) → (T (bit i clear) → ⊥) → bit i word ≡ bit i old
 
--- each answer exactly where its condition holds and none before it does
+-- each condition, where none before it holds, has its answer
 pub record Answers (allowed0 allowed1 set clear word : ℕ) (answer : ControlAnswer) : Type 0 where
   pub six : (Within allowed0 allowed1 → ⊥) → answer ≡ Refused 6
   pub seven : Within allowed0 allowed1 → (Apart set clear → ⊥) → answer ≡ Refused 7
   pub eight : Within allowed0 allowed1 → Apart set clear → (Within set allowed1 → ⊥) → answer ≡ Refused 8
   pub nine : Within allowed0 allowed1 → Apart set clear → Within set allowed1 → (Apart allowed0 clear → ⊥) → answer ≡ Refused 9
   pub accepted : Within allowed0 allowed1 → Apart set clear → Within set allowed1 → Apart allowed0 clear → answer ≡ Word word
+
+-- each answer comes with its condition
+pub data Outcome (allowed0 allowed1 set clear word : ℕ) : ControlAnswer → Type 0 where
+  six : (Within allowed0 allowed1 → ⊥) → Outcome allowed0 allowed1 set clear word (Refused 6)
+  seven : Within allowed0 allowed1 → (Apart set clear → ⊥) → Outcome allowed0 allowed1 set clear word (Refused 7)
+  eight : Within allowed0 allowed1 → Apart set clear → (Within set allowed1 → ⊥) → Outcome allowed0 allowed1 set clear word (Refused 8)
+  nine : Within allowed0 allowed1 → Apart set clear → Within set allowed1 → (Apart allowed0 clear → ⊥) → Outcome allowed0 allowed1 set clear word (Refused 9)
+  accepted : Within allowed0 allowed1 → Apart set clear → Within set allowed1 → Apart allowed0 clear → Outcome allowed0 allowed1 set clear word (Word word)
 
 -- ---- the five words: pin, primary, secondary, exit, entry
 

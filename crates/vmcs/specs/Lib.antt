@@ -9,3 +9,4 @@ pub mod Flags
 pub mod Control
 pub mod Cr
 pub mod Efer
+pub mod ExitInfo

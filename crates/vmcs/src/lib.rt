@@ -8,6 +8,7 @@ ghost use Rattle.vmcs.specs.Named.{encodings};
 ghost use Rattle.vmcs.specs.Fields.{positionOf, fieldAt, widthOf, greatestOf, readOnly, vmcsRead, vmcsWrite};
 
 pub mod controls;
+pub mod exit_info;
 pub mod flags;
 pub mod names;
 pub mod table;

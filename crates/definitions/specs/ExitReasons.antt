@@ -1,0 +1,75 @@
+-- All exit reasons by name, ascending. Assumes nothing.
+use Prim.Native.Nat.{ℕ}
+use mathlib.Core.List.{List, [], _∷_}
+use Rattle.definitions.specs.VmxExitReason as VmxExitReason
+
+unfoldable pub exitReasons : List ℕ
+exitReasons =
+    VmxExitReason.EXCEPTION_NMI
+    ∷ VmxExitReason.EXTERNAL_INTERRUPT
+    ∷ VmxExitReason.TRIPLE_FAULT
+    ∷ VmxExitReason.INIT
+    ∷ VmxExitReason.SIPI
+    ∷ VmxExitReason.SMI
+    ∷ VmxExitReason.OTHER_SMI
+    ∷ VmxExitReason.INTERRUPT_WINDOW
+    ∷ VmxExitReason.NMI_WINDOW
+    ∷ VmxExitReason.TASK_SWITCH
+    ∷ VmxExitReason.CPUID
+    ∷ VmxExitReason.GETSEC
+    ∷ VmxExitReason.HLT
+    ∷ VmxExitReason.INVD
+    ∷ VmxExitReason.INVLPG
+    ∷ VmxExitReason.RDPMC
+    ∷ VmxExitReason.RDTSC
+    ∷ VmxExitReason.RSM
+    ∷ VmxExitReason.VMCALL
+    ∷ VmxExitReason.VMCLEAR
+    ∷ VmxExitReason.VMLAUNCH
+    ∷ VmxExitReason.VMPTRLD
+    ∷ VmxExitReason.VMPTRST
+    ∷ VmxExitReason.VMREAD
+    ∷ VmxExitReason.VMRESUME
+    ∷ VmxExitReason.VMWRITE
+    ∷ VmxExitReason.VMOFF
+    ∷ VmxExitReason.VMON
+    ∷ VmxExitReason.CR_ACCESS
+    ∷ VmxExitReason.DR_ACCESS
+    ∷ VmxExitReason.IO_INSTRUCTION
+    ∷ VmxExitReason.MSR_READ
+    ∷ VmxExitReason.MSR_WRITE
+    ∷ VmxExitReason.INVALID_GUEST_STATE
+    ∷ VmxExitReason.MSR_LOAD_FAIL
+    ∷ VmxExitReason.MWAIT_INSTRUCTION
+    ∷ VmxExitReason.MONITOR_TRAP_FLAG
+    ∷ VmxExitReason.MONITOR_INSTRUCTION
+    ∷ VmxExitReason.PAUSE_INSTRUCTION
+    ∷ VmxExitReason.MCE_DURING_VMENTRY
+    ∷ VmxExitReason.TPR_BELOW_THRESHOLD
+    ∷ VmxExitReason.APIC_ACCESS
+    ∷ VmxExitReason.VIRTUALIZED_EOI
+    ∷ VmxExitReason.GDTR_IDTR
+    ∷ VmxExitReason.LDTR_TR
+    ∷ VmxExitReason.EPT_VIOLATION
+    ∷ VmxExitReason.EPT_MISCONFIG
+    ∷ VmxExitReason.INVEPT
+    ∷ VmxExitReason.RDTSCP
+    ∷ VmxExitReason.PREEMPTION_TIMER
+    ∷ VmxExitReason.INVVPID
+    ∷ VmxExitReason.WBINVD
+    ∷ VmxExitReason.XSETBV
+    ∷ VmxExitReason.APIC_WRITE
+    ∷ VmxExitReason.RDRAND
+    ∷ VmxExitReason.INVPCID
+    ∷ VmxExitReason.VMFUNC
+    ∷ VmxExitReason.ENCLS
+    ∷ VmxExitReason.RDSEED
+    ∷ VmxExitReason.PML_FULL
+    ∷ VmxExitReason.XSAVES
+    ∷ VmxExitReason.XRSTORS
+    ∷ VmxExitReason.PCONFIG
+    ∷ VmxExitReason.SPP_EVENT
+    ∷ VmxExitReason.UMWAIT
+    ∷ VmxExitReason.TPAUSE
+    ∷ VmxExitReason.LOADIWKEY
+    ∷ []

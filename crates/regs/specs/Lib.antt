@@ -1,0 +1,2 @@
+-- The definitions that the contracts of `regs` cite.
+pub mod Registers

@@ -1,0 +1,51 @@
+-- The session: a new one, one with a part changed, and which ones no record holds (document 01, "Session"). Assumes nothing.
+use Prim.Native.Nat.{ℕ}
+use mathlib.Core.Bool.{Bool, false, _||_}
+use mathlib.Core.List.{List}
+use lib.Dec.{ltb}
+use lib.ListN.{replicate}
+use Rattle.regs.specs.Registers.{ofList}
+use Rattle.regs.specs.declared.GeneralRegisters.{GeneralRegisters}
+use Rattle.vmcs.specs.Control.{noPair}
+use Rattle.vmcs.specs.declared.Vmcs.{Vmcs}
+use Rattle.vcpu_session.specs.Phase as Phase
+use Rattle.vcpu_session.specs.declared.Progress.{Progress}
+use Rattle.vcpu_session.specs.declared.Queue.{Queue}
+use Rattle.vcpu_session.specs.declared.Fixed.{Fixed}
+use Rattle.vcpu_session.specs.declared.Capabilities.{Capabilities}
+use Rattle.vcpu_session.specs.declared.Session.{Session}
+
+abbrev pub noFixed : Fixed
+noFixed = record { fixed0 = 0; fixed1 = 0 }
+
+-- fresh, and all zero
+unfoldable pub newSession : Session
+newSession =
+    record {
+      progress = record { phase = Phase.FRESH; launched = false; entries = 0; held = 0 };
+      regs = ofList (replicate 16 0);
+      vmcs = record { w16 = replicate 17 0; w32 = replicate 50 0; w64 = replicate 41 0; natural = replicate 46 0 };
+      queue = record { waiting = 0; vectors = replicate 64 0; coded = replicate 64 false; codes = replicate 64 0 };
+      capabilities = record { pairs = replicate 5 noPair; cr0 = noFixed; cr4 = noFixed };
+    }
+
+-- ---- a session with one part changed
+
+abbrev pub withProgress : Session → Progress → Session
+withProgress s x = record { progress = x; regs = s .regs; vmcs = s .vmcs; queue = s .queue; capabilities = s .capabilities }
+
+abbrev pub withRegs : Session → GeneralRegisters → Session
+withRegs s x = record { progress = s .progress; regs = x; vmcs = s .vmcs; queue = s .queue; capabilities = s .capabilities }
+
+abbrev pub withVmcs : Session → Vmcs → Session
+withVmcs s x = record { progress = s .progress; regs = s .regs; vmcs = x; queue = s .queue; capabilities = s .capabilities }
+
+abbrev pub withQueue : Session → Queue → Session
+withQueue s x = record { progress = s .progress; regs = s .regs; vmcs = s .vmcs; queue = x; capabilities = s .capabilities }
+
+abbrev pub inPhase : Progress → ℕ → Progress
+inPhase p x = record { phase = x; launched = p .launched; entries = p .entries; held = p .held }
+
+-- 2: a phase above 4, more than 64 events, or more held entries than entries
+abbrev pub isUnlawful : Session → Bool
+isUnlawful s = ltb 4 (s .progress .phase) || ltb 64 (s .queue .waiting) || ltb (s .progress .entries) (s .progress .held)

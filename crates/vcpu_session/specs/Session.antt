@@ -1,5 +1,5 @@
 -- The session: a new one, one with a part changed, and which ones no record holds (document 01, "Session"). Assumes nothing.
-use Prim.Native.Nat.{ℕ}
+use Prim.Native.Nat.{ℕ, _≤_}
 use mathlib.Core.Bool.{Bool, false, _||_}
 use mathlib.Core.List.{List}
 use lib.Dec.{ltb}
@@ -49,3 +49,9 @@ inPhase p x = record { phase = x; launched = p .launched; entries = p .entries; 
 -- 2: a phase above 4, more than 64 events, or more held entries than entries
 abbrev pub isUnlawful : Session → Bool
 isUnlawful s = ltb 4 (s .progress .phase) || ltb 64 (s .queue .waiting) || ltb (s .progress .entries) (s .progress .held)
+
+-- what a record can hold
+pub record Lawful (s : Session) : Type 0 where
+  pub phase : s .progress .phase ≤ 4
+  pub waiting : s .queue .waiting ≤ 64
+  pub held : s .progress .held ≤ s .progress .entries

@@ -3,3 +3,5 @@ pub mod Cr0Flags
 pub mod Cr4Flags
 pub mod EferFlags
 pub mod EntryControls
+pub mod PrimaryControls
+pub mod RFlags

@@ -35,3 +35,9 @@ pub struct EntryControls {}
 impl EntryControls {
     pub const IA32E_MODE_GUEST: u32 = 0x200;
 }
+
+pub struct PrimaryControls {}
+
+impl PrimaryControls {
+    pub const INTERRUPT_WINDOW_EXITING: u32 = 0x4;
+}

@@ -1,0 +1,3 @@
+-- The definitions that the contracts of `vcpu_events` cite.
+pub mod Queue
+pub mod Entry

@@ -1,0 +1,60 @@
+-- The queue of events, and queueing one (document 01, "Session" and "The operations and their numbers"). Assumes nothing.
+use Prim.Native.Nat.{ℕ, _+_, _-_}
+use mathlib.Core.Bool.{Bool, false, cond}
+use mathlib.Core.List.{List, [], _∷_, _++_}
+use lib.Dec.{eqb, leb, ltb}
+use lib.ListN.{getD, set, drop}
+use Rattle.vcpu_session.specs.Phase as Phase
+use Rattle.vcpu_session.specs.Session.{isUnlawful, withQueue}
+use Rattle.vcpu_session.specs.declared.Queue.{Queue}
+use Rattle.vcpu_session.specs.declared.Session.{Session}
+use Rattle.vcpu_events.specs.declared.Event.{Event}
+use Rattle.vcpu_events.specs.declared.Answered.{Answered}
+
+-- the front of the queue
+abbrev pub frontOf : Queue → Event
+frontOf q = record { vector = getD (q .vectors) 0 0; coded = getD (q .coded) 0 false; code = getD (q .codes) 0 0 }
+
+-- a list without its first element, the others moved down, and x in the place that is freed
+unfoldable pub shifted : {A : Type 0} → A → List A → List A
+shifted x l = drop 1 l ++ (x ∷ [])
+
+-- the queue without its front
+unfoldable pub popped : Queue → Queue
+popped q =
+    record {
+      waiting = q .waiting - 1;
+      vectors = shifted 0 (q .vectors);
+      coded = shifted false (q .coded);
+      codes = shifted 0 (q .codes);
+    }
+
+-- the queue with an event last: a code that is not given is stored as 0
+unfoldable pub pushed : Queue → Event → Queue
+pushed q e =
+    record {
+      waiting = q .waiting + 1;
+      vectors = set (q .vectors) (q .waiting) (e .vector);
+      coded = set (q .coded) (q .waiting) (e .coded);
+      codes = set (q .codes) (q .waiting) (cond (e .coded) (e .code) 0);
+    }
+
+abbrev pub answered : ℕ → Session → Answered
+answered n s = record { refusal = n; session = s }
+
+-- 2: no record holds the session. 1: ended. 13: 64 events wait
+unfoldable pub queueEvent : Session → Event → Answered
+queueEvent s e =
+    cond (isUnlawful s) (answered 2 s)
+    (cond (eqb (s .progress .phase) Phase.ENDED) (answered 1 s)
+    (cond (leb 64 (s .queue .waiting)) (answered 13 s)
+    (answered 0 (withQueue s (pushed (s .queue) e)))))
+
+-- an interrupt: a vector without a code. 2 and 1 as above. 12: vector 0 or above 255. 13 as above
+unfoldable pub injectInterrupt : Session → ℕ → Answered
+injectInterrupt s vector =
+    cond (isUnlawful s) (answered 2 s)
+    (cond (eqb (s .progress .phase) Phase.ENDED) (answered 1 s)
+    (cond (eqb vector 0) (answered 12 s)
+    (cond (ltb 255 vector) (answered 12 s)
+    (queueEvent s (record { vector = vector; coded = false; code = 0 })))))

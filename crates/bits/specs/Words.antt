@@ -3,6 +3,8 @@
 -- Assumes nothing.
 use Prim.Native.Nat.{ℕ, _+_, _-_, _*_, _/_, _%_, _^_}
 use mathlib.Core.Bool.{Bool, true, false}
+use mathlib.Core.List.{List, [], _∷_}
+use lib.Bits.{bitOr}
 use lib.Dec.{T, eqb}
 
 -- the complement of a word of w bits: `!a`
@@ -25,6 +27,11 @@ bit i a = eqb (a / 2 ^ i % 2) 1
 -- a word with bit k made v: what stands above the bit, the bit, what stands below it
 unfoldable pub withBit : ℕ → Bool → ℕ → ℕ
 withBit k v a = (a / 2 ^ k / 2 * 2 + flag v) * 2 ^ k + a % 2 ^ k
+
+-- the word with these bits and no other
+abbrev pub maskOf : List ℕ → ℕ
+maskOf [] = 0
+maskOf (i ∷ is) = bitOr (2 ^ i) (maskOf is)
 
 -- the halves of a word of 64 bits (ECX of RCX), and the word of two halves (EDX:EAX)
 abbrev pub low32 : ℕ → ℕ

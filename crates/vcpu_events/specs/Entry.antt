@@ -28,7 +28,7 @@ use Rattle.vcpu_events.specs.declared.Entered.{Entered}
 
 -- the vector is 32 or more, and IF is clear or interruptibility is not 0
 unfoldable pub isHeld : ℕ → ℕ → ℕ → Bool
-isHeld vector rflags interruptibility = leb 32 vector && (eqb (rflags / 2 ^ RFlags.IF % 2) 0 || not (eqb interruptibility 0))
+isHeld vector rflags interruptibility = leb 32 vector && (eqb (rflags / 2 ^ RFlags.INTERRUPT_FLAG % 2) 0 || not (eqb interruptibility 0))
 
 unfoldable pub injectionOf : Queue → Vmcs → Injection
 injectionOf q v =

@@ -4,6 +4,8 @@ use mathlib.Core.Bool.{Bool, true, false, cond}
 use lib.Dec.{eqb, ltb}
 use Rattle.bits.specs.Words.{bit}
 use Rattle.vmcs.specs.Field.{valueOf}
+use Rattle.vmcs.specs.Flags.Cr0Flags as Cr0Flags
+use Rattle.vmcs.specs.Flags.Cr4Flags as Cr4Flags
 use Rattle.vmcs.specs.Flags.EferFlags as EferFlags
 use Rattle.vmcs.specs.Names.VmcsGuest32 as VmcsGuest32
 use Rattle.vmcs.specs.Names.VmcsGuest64 as VmcsGuest64
@@ -16,30 +18,8 @@ use Rattle.vcpu_readings.specs.declared.GuestPageWalkInfo.{GuestPageWalk
 use Rattle.vcpu_readings.specs.declared.AddressAnswer.{AddressAnswer}
 use Rattle.vcpu_readings.specs.declared.AddressAnswer.the-variants.{Value, Refused}
 
--- ---- bits by their places: CR0 and CR4 (SDM 3A, 2.5), access rights (SDM 3C, table 25-2)
+-- ---- bits of access rights by their places (SDM 3C, table 25-2): 64-bit code segment, and the first bit of the descriptor privilege level
 
-abbrev PE : ℕ
-PE = 0
-
-abbrev WP : ℕ
-WP = 16
-
-abbrev PG : ℕ
-PG = 31
-
-abbrev PSE : ℕ
-PSE = 4
-
-abbrev PAE : ℕ
-PAE = 5
-
-abbrev SMEP : ℕ
-SMEP = 20
-
-abbrev SMAP : ℕ
-SMAP = 21
-
--- 64-bit code segment, and the first bit of the descriptor privilege level
 abbrev L : ℕ
 L = 13
 
@@ -48,10 +28,10 @@ DPL = 5
 
 -- ---- the mode
 
--- LMA is of the host's EFER, as in the Rust
+-- LMA is of the host's EFER, as in the Rust; CR0.PE is bit 0
 unfoldable pub cpuMode : ℕ → ℕ → ℕ → VmCpuMode
 cpuMode efer csRights cr0 =
-    cond (bit EferFlags.LMA efer) (cond (bit L csRights) Mode64 Compatibility)
+    cond (bit EferFlags.LONG_MODE_ACTIVE efer) (cond (bit L csRights) Mode64 Compatibility)
     (cond (eqb (cr0 % 2) 1) Protected Real)
 
 -- the number of a mode in the C interface
@@ -69,19 +49,19 @@ getCpuMode v efer = cpuMode efer (valueOf v VmcsGuest32.CS_ACCESS_RIGHTS) (value
 -- no paging 0, 32-bit paging 2, PAE paging 3, long mode 4
 unfoldable pub pagingLevel : PagingWords → ℕ
 pagingLevel w =
-    cond (eqb (w .cr0 / 2 ^ PG % 2) 0) 0
-    (cond (eqb (w .cr4 / 2 ^ PAE % 2) 0) 2
-    (cond (bit EferFlags.LMA (w .efer)) 4 3))
+    cond (eqb (w .cr0 / 2 ^ Cr0Flags.PAGING % 2) 0) 0
+    (cond (eqb (w .cr4 / 2 ^ Cr4Flags.PHYSICAL_ADDRESS_EXTENSION % 2) 0) 2
+    (cond (bit EferFlags.LONG_MODE_ACTIVE (w .efer)) 4 3))
 
 -- how many bits of an address each level takes
 unfoldable pub walkWidth : ℕ → ℕ
 walkWidth level = cond (eqb level 0) 0 (cond (eqb level 2) 10 9)
 
 unfoldable pub walkPse : ℕ → ℕ → Bool
-walkPse level cr4 = cond (eqb level 2) (bit PSE cr4) true
+walkPse level cr4 = cond (eqb level 2) (bit Cr4Flags.PAGE_SIZE_EXTENSION cr4) true
 
 unfoldable pub walkNxe : ℕ → ℕ → Bool
-walkNxe level efer = cond (eqb level 2) false (bit EferFlags.NXE efer)
+walkNxe level efer = cond (eqb level 2) false (bit EferFlags.NO_EXECUTE_ENABLE efer)
 
 -- privilege level 3 is a user's; write and fetch are no
 unfoldable pub pageWalk : PagingWords → GuestPageWalkInfo
@@ -94,10 +74,10 @@ pageWalk w =
       «is_write_access» = false;
       «is_inst_fetch» = false;
       pse = walkPse (pagingLevel w) (w .cr4);
-      wp = bit WP (w .cr0);
+      wp = bit Cr0Flags.WRITE_PROTECT (w .cr0);
       nxe = walkNxe (pagingLevel w) (w .efer);
-      «is_smap_on» = bit SMAP (w .cr4);
-      «is_smep_on» = bit SMEP (w .cr4);
+      «is_smap_on» = bit Cr4Flags.SUPERVISOR_MODE_ACCESS_PREVENTION (w .cr4);
+      «is_smep_on» = bit Cr4Flags.SUPERVISOR_MODE_EXECUTION_PROTECTION (w .cr4);
     }
 
 abbrev pub pagingWords : Vmcs → PagingWords

@@ -1,7 +1,8 @@
 -- The guest's CR0 and CR4 under the fixed bits of the processor (`set_cr`; SDM 3D, A.7 and A.8). Assumes nothing.
-use Prim.Native.Nat.{ℕ}
+use Prim.Native.Nat.{ℕ, _^_}
+use mathlib.Core.List.{[], _∷_}
 use lib.Bits.{bitAnd, bitOr}
-use Rattle.bits.specs.Words.{bitNot}
+use Rattle.bits.specs.Words.{bitNot, maskOf}
 use Rattle.vmcs.specs.Flags.Cr0Flags as Cr0Flags
 use Rattle.vmcs.specs.Flags.Cr4Flags as Cr4Flags
 use Rattle.vmcs.specs.declared.controls.CrWords.{CrWords}
@@ -13,19 +14,19 @@ crWords must0 must1 val =
 
 -- what the guest chooses freely in CR0, since unrestricted guest is on
 abbrev pub cr0Free : ℕ
-cr0Free = bitOr Cr0Flags.PAGING Cr0Flags.PROTECTED_MODE_ENABLE
+cr0Free = maskOf (Cr0Flags.PAGING ∷ Cr0Flags.PROTECTED_MODE_ENABLE ∷ [])
 
 -- what is kept off in CR0, since an exit does not update it
 abbrev pub cr0Off : ℕ
-cr0Off = bitOr Cr0Flags.NOT_WRITE_THROUGH Cr0Flags.CACHE_DISABLE
+cr0Off = maskOf (Cr0Flags.NOT_WRITE_THROUGH ∷ Cr0Flags.CACHE_DISABLE ∷ [])
 
 abbrev pub cr0Words : ℕ → ℕ → ℕ → CrWords
 cr0Words fixed0 fixed1 val = crWords (bitAnd fixed1 (bitNot 64 cr0Off)) (bitAnd fixed0 (bitNot 64 cr0Free)) val
 
 -- VMXE is always set
 abbrev pub cr4Words : ℕ → ℕ → ℕ → CrWords
-cr4Words fixed0 fixed1 val = crWords fixed1 fixed0 (bitOr val Cr4Flags.VIRTUAL_MACHINE_EXTENSIONS)
+cr4Words fixed0 fixed1 val = crWords fixed1 fixed0 (bitOr val (2 ^ Cr4Flags.VIRTUAL_MACHINE_EXTENSIONS))
 
 -- the first CR0 of a guest: NW, CD and ET
 abbrev pub firstCr0 : ℕ
-firstCr0 = bitOr (bitOr Cr0Flags.NOT_WRITE_THROUGH Cr0Flags.CACHE_DISABLE) Cr0Flags.EXTENSION_TYPE
+firstCr0 = maskOf (Cr0Flags.NOT_WRITE_THROUGH ∷ Cr0Flags.CACHE_DISABLE ∷ Cr0Flags.EXTENSION_TYPE ∷ [])

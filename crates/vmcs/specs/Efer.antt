@@ -1,9 +1,10 @@
 -- EFER and the entry controls where the guest turns paging on (`update_efer`). Assumes nothing.
 use Prim.Native.Nat.{ℕ, _/_, _%_, _^_}
 use mathlib.Core.Bool.{Bool, cond, _&&_}
+use mathlib.Core.List.{[], _∷_}
 use lib.Bits.{bitAnd, bitOr}
 use lib.Dec.{eqb}
-use Rattle.bits.specs.Words.{bit}
+use Rattle.bits.specs.Words.{bit, maskOf}
 use Rattle.vmcs.specs.Flags.EferFlags as EferFlags
 use Rattle.vmcs.specs.Flags.EntryControls as EntryControls
 use Rattle.vmcs.specs.Control.{controlWord}
@@ -11,15 +12,23 @@ use Rattle.vmcs.specs.declared.controls.Pair.{Pair}
 use Rattle.vmcs.specs.declared.controls.EferUpdate.{EferUpdate}
 
 unfoldable pub isLongMode : ℕ → Bool
-isLongMode efer = bit EferFlags.LME efer && bit EferFlags.LMA efer
+isLongMode efer = bit EferFlags.LONG_MODE_ENABLE efer && bit EferFlags.LONG_MODE_ACTIVE efer
 
 -- the entry pair does not allow IA-32e mode guest
 unfoldable pub lacksIa32e : ℕ → Bool
 lacksIa32e allowed1 = eqb (allowed1 / 2 ^ EntryControls.IA32E_MODE_GUEST % 2) 0
 
+-- the bits of EFER that have a name (document 01: 0xFD01)
+abbrev pub eferNamed : ℕ
+eferNamed =
+    maskOf
+    (EferFlags.SYSTEM_CALL_EXTENSIONS ∷ EferFlags.LONG_MODE_ENABLE ∷ EferFlags.LONG_MODE_ACTIVE ∷ EferFlags.NO_EXECUTE_ENABLE
+    ∷ EferFlags.SECURE_VIRTUAL_MACHINE_ENABLE ∷ EferFlags.LONG_MODE_SEGMENT_LIMIT_ENABLE ∷ EferFlags.FAST_FXSAVE_FXRSTOR
+    ∷ EferFlags.TRANSLATION_CACHE_EXTENSION ∷ [])
+
 -- LMA is set, and the bits without a name go
 abbrev pub longModeEfer : ℕ → ℕ
-longModeEfer efer = bitOr (bitAnd efer EferFlags.ALL) (2 ^ EferFlags.LMA)
+longModeEfer efer = bitOr (bitAnd efer eferNamed) (2 ^ EferFlags.LONG_MODE_ACTIVE)
 
 -- the entry word with IA-32e mode guest, by the control-word rule with the present word as old
 abbrev pub longModeEntry : Pair → ℕ → ℕ

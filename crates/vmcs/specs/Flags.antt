@@ -1,7 +1,10 @@
--- The bits that definitions name, as in the manual. A flag is a word with its bit alone. Assumes nothing.
+-- The bits that definitions name, as in the Rust and the manual: each name is the place of its bit. Assumes nothing.
 pub mod Cr0Flags
 pub mod Cr4Flags
 pub mod EferFlags
-pub mod EntryControls
-pub mod PrimaryControls
 pub mod RFlags
+pub mod PinbasedControls
+pub mod PrimaryControls
+pub mod SecondaryControls
+pub mod ExitControls
+pub mod EntryControls

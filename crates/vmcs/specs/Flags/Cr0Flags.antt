@@ -1,17 +1,20 @@
--- CR0 (SDM 3A, 2.5). Assumes nothing.
-use Prim.Native.Nat.{ℕ, _^_}
+-- CR0 (SDM 3A, 2.5), by their places. Assumes nothing.
+use Prim.Native.Nat.{ℕ}
 
 abbrev pub PROTECTED_MODE_ENABLE : ℕ
-PROTECTED_MODE_ENABLE = 2 ^ 0
+PROTECTED_MODE_ENABLE = 0
 
 abbrev pub EXTENSION_TYPE : ℕ
-EXTENSION_TYPE = 2 ^ 4
+EXTENSION_TYPE = 4
+
+abbrev pub WRITE_PROTECT : ℕ
+WRITE_PROTECT = 16
 
 abbrev pub NOT_WRITE_THROUGH : ℕ
-NOT_WRITE_THROUGH = 2 ^ 29
+NOT_WRITE_THROUGH = 29
 
 abbrev pub CACHE_DISABLE : ℕ
-CACHE_DISABLE = 2 ^ 30
+CACHE_DISABLE = 30
 
 abbrev pub PAGING : ℕ
-PAGING = 2 ^ 31
+PAGING = 31

@@ -1,16 +1,26 @@
--- IA32_EFER (SDM 3A, 2.2.1; AMD64 volume 2, 3.1.7, for the bits above 11). Assumes nothing.
-use Prim.Native.Nat.{ℕ, _^_}
+-- IA32_EFER (SDM 3A, 2.2.1; AMD64 volume 2, 3.1.7, for the bits above 11), by their places. Assumes nothing.
+use Prim.Native.Nat.{ℕ}
 
--- LME, LMA and NXE by their places
-abbrev pub LME : ℕ
-LME = 8
+abbrev pub SYSTEM_CALL_EXTENSIONS : ℕ
+SYSTEM_CALL_EXTENSIONS = 0
 
-abbrev pub LMA : ℕ
-LMA = 10
+abbrev pub LONG_MODE_ENABLE : ℕ
+LONG_MODE_ENABLE = 8
 
-abbrev pub NXE : ℕ
-NXE = 11
+abbrev pub LONG_MODE_ACTIVE : ℕ
+LONG_MODE_ACTIVE = 10
 
--- the bits that have a name: SCE 0, LME 8, LMA 10, NXE 11, SVME 12, LMSLE 13, FFXSR 14, TCE 15 (document 01: 0xFD01)
-abbrev pub ALL : ℕ
-ALL = 0xFD01
+abbrev pub NO_EXECUTE_ENABLE : ℕ
+NO_EXECUTE_ENABLE = 11
+
+abbrev pub SECURE_VIRTUAL_MACHINE_ENABLE : ℕ
+SECURE_VIRTUAL_MACHINE_ENABLE = 12
+
+abbrev pub LONG_MODE_SEGMENT_LIMIT_ENABLE : ℕ
+LONG_MODE_SEGMENT_LIMIT_ENABLE = 13
+
+abbrev pub FAST_FXSAVE_FXRSTOR : ℕ
+FAST_FXSAVE_FXRSTOR = 14
+
+abbrev pub TRANSLATION_CACHE_EXTENSION : ℕ
+TRANSLATION_CACHE_EXTENSION = 15

@@ -1,5 +1,5 @@
 -- RFLAGS (SDM 1, 3.4.3), by their places. Assumes nothing.
 use Prim.Native.Nat.{ℕ}
 
-abbrev pub IF : ℕ
-IF = 9
+abbrev pub INTERRUPT_FLAG : ℕ
+INTERRUPT_FLAG = 9

@@ -1,0 +1,5 @@
+-- The definitions that the contracts of `vcpu_setup` cite.
+pub mod Capability
+pub mod Words
+pub mod Writes
+pub mod Setup

@@ -18,7 +18,7 @@ use Rattle.vmcs.specs.Names.VmcsHost16 as VmcsHost16
 use Rattle.vmcs.specs.Names.VmcsHost32 as VmcsHost32
 use Rattle.vmcs.specs.Names.VmcsHost64 as VmcsHost64
 use Rattle.vmcs.specs.Names.VmcsHostNW as VmcsHostNW
-use Rattle.structs.specs.Ept.{eptPointer}
+use Rattle.structs.specs.EPTPointer.{eptPointer}
 use Rattle.vcpu_setup.specs.Capability.{pairsOf, oldsOf}
 use Rattle.vcpu_setup.specs.Words.{setupWords}
 use Rattle.vcpu_setup.specs.declared.CapabilityMsrs.{CapabilityMsrs}

@@ -1,7 +1,7 @@
 // The C interface of the core. Every function answers 0 or the number of the refusal (document 01), and a refused call writes nothing.
 // A yes/no argument is a byte, refused by 2 unless it is 0 or 1.
 ghost use mathlib.Core.Path.{_≡_};
-ghost use Rattle.x86_vcpu.specs.Calls.{controlCall, portCall, readCall, writeCall, msrCall};
+ghost use Rattle.x86_vcpu.specs.Calls.{controlCall, portCall, msrCall, reads, writes, both};
 use vmcs::controls::ControlAnswer;
 use vmcs::controls::Pair;
 
@@ -50,7 +50,7 @@ pub extern "C" fn vcpu_set_io_intercept_of_range(
 // The intercept of reads of one MSR: refusals 2, 11.
 #[no_mangle]
 pub extern "C" fn vcpu_set_read_intercept(frame: &mut [u8], msr: u32, intercept: u8) -> u32
-    ensures { λ r. ⌜ record { refusal = r; frame = now (frame .exit) } ≡ readCall (now (frame .entry)) msr intercept ⌝ }
+    ensures { λ r. ⌜ record { refusal = r; frame = now (frame .exit) } ≡ msrCall reads (now (frame .entry)) msr intercept ⌝ }
 {
     if 1 < intercept {
         return 2;
@@ -61,7 +61,7 @@ pub extern "C" fn vcpu_set_read_intercept(frame: &mut [u8], msr: u32, intercept:
 // The intercept of writes of one MSR: refusals 2, 11.
 #[no_mangle]
 pub extern "C" fn vcpu_set_write_intercept(frame: &mut [u8], msr: u32, intercept: u8) -> u32
-    ensures { λ r. ⌜ record { refusal = r; frame = now (frame .exit) } ≡ writeCall (now (frame .entry)) msr intercept ⌝ }
+    ensures { λ r. ⌜ record { refusal = r; frame = now (frame .exit) } ≡ msrCall writes (now (frame .entry)) msr intercept ⌝ }
 {
     if 1 < intercept {
         return 2;
@@ -72,7 +72,7 @@ pub extern "C" fn vcpu_set_write_intercept(frame: &mut [u8], msr: u32, intercept
 // The intercepts of reads and of writes of one MSR: refusals 2, 11.
 #[no_mangle]
 pub extern "C" fn vcpu_set_msr_intercept_of_range(frame: &mut [u8], msr: u32, intercept: u8) -> u32
-    ensures { λ r. ⌜ record { refusal = r; frame = now (frame .exit) } ≡ msrCall (now (frame .entry)) msr intercept ⌝ }
+    ensures { λ r. ⌜ record { refusal = r; frame = now (frame .exit) } ≡ msrCall both (now (frame .entry)) msr intercept ⌝ }
 {
     if 1 < intercept {
         return 2;

@@ -1,0 +1,11 @@
+-- Each case that document 01 works by hand comes out as it should: one computed test over the table. Assumes nothing.
+use mathlib.Core.Path.{_≡_, refl}
+use mathlib.Core.List.{map}
+use Rattle.definitions.specs.Interruption.{typeNumber, fromVector}
+use Rattle.vmcs.specs.Control.{controlWord, setControl}
+use Rattle.structs.specs.Frames.{portIndex, quarterOf}
+use Rattle.worked.specs.Worked.{Case, worked}
+
+pub all-as-wanted : map (λ (c : Case). c .given) worked ≡ map (λ (c : Case). c .wanted) worked
+unfolding controlWord setControl typeNumber fromVector portIndex quarterOf
+all-as-wanted = refl

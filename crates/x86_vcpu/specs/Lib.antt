@@ -1,0 +1,2 @@
+-- The definitions that the contracts of the exported functions cite.
+pub mod Calls

@@ -299,7 +299,8 @@ fn with_window(v: Vmcs) -> Vmcs
 {
     let word = v.w32[VmcsControl32::PRIMARY_PROCBASED_EXEC_CONTROLS];
     let mut next = v;
-    next.w32[VmcsControl32::PRIMARY_PROCBASED_EXEC_CONTROLS] = word | PrimaryControls::INTERRUPT_WINDOW_EXITING;
+    next.w32[VmcsControl32::PRIMARY_PROCBASED_EXEC_CONTROLS] = word
+        | PrimaryControls::INTERRUPT_WINDOW_EXITING;
     next
 }
 

@@ -73,6 +73,7 @@ pub fn new() -> Session
         fixed0: 0,
         fixed1: 0,
     };
+    let registers = regs::of_array([0; 16]);
     Session {
         progress: Progress {
             phase: Phase::FRESH,
@@ -80,24 +81,7 @@ pub fn new() -> Session
             entries: 0,
             held: 0,
         },
-        regs: GeneralRegisters {
-            rax: 0,
-            rcx: 0,
-            rdx: 0,
-            rbx: 0,
-            _unused_rsp: 0,
-            rbp: 0,
-            rsi: 0,
-            rdi: 0,
-            r8: 0,
-            r9: 0,
-            r10: 0,
-            r11: 0,
-            r12: 0,
-            r13: 0,
-            r14: 0,
-            r15: 0,
-        },
+        regs: registers,
         vmcs: Vmcs {
             w16: [0; 17],
             w32: [0; 50],

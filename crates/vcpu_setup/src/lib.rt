@@ -17,12 +17,12 @@ use vcpu_session::Session;
 use vmcs::Vmcs;
 use vmcs::controls::CrWords;
 use vmcs::controls::Pair;
+use vmcs::flags::Cr0Flags;
 use vmcs::flags::EntryControls;
 use vmcs::flags::ExitControls;
 use vmcs::flags::PinbasedControls;
 use vmcs::flags::PrimaryControls;
 use vmcs::flags::SecondaryControls;
-use vmcs::flags::Cr0Flags;
 use vmcs::names::VmcsControl32;
 use vmcs::names::VmcsControl64;
 use vmcs::names::VmcsControlNW;
@@ -165,7 +165,9 @@ fn secondary_set(f: Features) -> u32
 
 const PIN_SET: u32 = PinbasedControls::NMI_EXITING | PinbasedControls::EXTERNAL_INTERRUPT_EXITING;
 
-const PRIMARY_SET: u32 = PrimaryControls::USE_IO_BITMAPS | PrimaryControls::USE_MSR_BITMAPS | PrimaryControls::SECONDARY_CONTROLS;
+const PRIMARY_SET: u32 = PrimaryControls::USE_IO_BITMAPS
+    | PrimaryControls::USE_MSR_BITMAPS
+    | PrimaryControls::SECONDARY_CONTROLS;
 
 const PRIMARY_CLEAR: u32 = PrimaryControls::CR3_LOAD_EXITING
     | PrimaryControls::CR3_STORE_EXITING
@@ -209,7 +211,10 @@ fn words_refusal(pairs: [Pair; 5], f: Features) -> u32
     let secondary = bits_refusal(pairs[2], secondary_set(f), 0);
     let exit = bits_refusal(pairs[3], EXIT_SET, 0);
     let entry = bits_refusal(pairs[4], ENTRY_SET, 0);
-    or_else(pin, or_else(primary, or_else(secondary, or_else(exit, entry))))
+    or_else(
+        pin,
+        or_else(primary, or_else(secondary, or_else(exit, entry))),
+    )
 }
 
 fn setup_words(pairs: [Pair; 5], olds: [u32; 5], f: Features) -> [u32; 5]

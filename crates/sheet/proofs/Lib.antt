@@ -1,0 +1,5 @@
+pub mod HexLaws
+pub mod LineLaws
+pub mod SheetLaws
+pub mod FormLaws
+pub mod Example

@@ -1,0 +1,11 @@
+-- `sheet::hex::digit_value` meets its contract. Assumes nothing.
+use Rattle.bits.proofs.Tests.{tests}
+use Rattle.sheet.specs.Hex.{digitValue}
+use Rattle.sheet.proofs.hex.digit_value.Statement.{statement}
+use Rattle.sheet.proofs.hex.digit_value.Tie as tie
+
+pub digit-value-spec : {M : Type 1} → statement M
+unfolding digitValue
+digit-value-spec =
+    tie.close
+    (tie.spec (λ c. search tests) (λ c. search tests) (λ c. search tests) (λ c. search tests) (λ c. search tests) (λ c. search tests) (λ c. search tests) (λ c. search tests))

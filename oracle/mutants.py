@@ -1,0 +1,170 @@
+#!/usr/bin/env python3
+"""Breaks the port's source in many small ways, builds each mutant unproved, and shows which run notices it.
+
+usage: oracle/mutants.py [--cases N] [--only TEXT]
+
+The crates are turned to Rust by tools/strip.py. A mutant is run by every program that replays a list of the original's answers and
+depends on the changed crate, and by the differential run where the exported functions depend on it.
+
+It prints a table in Markdown. Exit status: 0 if every mutant is noticed or its survival is explained in mutations.py, and every
+mutation applies; 3 if the original can't be built; else 1. With --only, the mutations whose file or text contains TEXT.
+"""
+
+import argparse
+import os
+import subprocess
+import sys
+from pathlib import Path
+
+HERE = Path(__file__).resolve().parent
+REPOSITORY = HERE.parent
+WORK = HERE / "target" / "mutants"
+sys.path.insert(0, str(HERE / "tools"))
+sys.path.insert(0, str(HERE))
+
+import strip  # noqa: E402
+from mutations import MUTATIONS  # noqa: E402
+
+SECONDS = 300
+LIST_MARK = b"made by oracle/lists"
+
+
+def run(command, **options):
+    return subprocess.run(command, capture_output=True, timeout=SECONDS, **options)
+
+
+def build():
+    """Builds the workspace; the errors if it fails."""
+    done = run(["cargo", "build", "--offline", "--quiet"], cwd=WORK)
+    return "" if done.returncode == 0 else done.stderr.decode()
+
+
+def build_differential(library):
+    """The differential program over this shared library, kept apart from the one over the archive."""
+    environment = dict(os.environ, X86_VCPU_ARCHIVE=str(library))
+    done = run(["cargo", "build", "--offline", "--quiet", "--release", "-p", "differential"], cwd=HERE, env=environment)
+    if done.returncode != 0:
+        raise SystemExit(done.stderr.decode())
+    program = WORK / "differential"
+    program.write_bytes((HERE / "target/release/differential").read_bytes())
+    program.chmod(0o755)
+    return program
+
+
+def dependants(crates, name):
+    """The crate and all that depend on it."""
+    found = {name}
+    while True:
+        more = {crate for crate, needs in crates.items() if found & set(needs)} - found
+        if not more:
+            return found
+        found |= more
+
+
+class Replay:
+    """A program of the repository that replays a list."""
+
+    def __init__(self, name, folder):
+        self.name = name
+        self.input, self.expected = (folder / "stdin").read_bytes(), (folder / "stdout").read_bytes()
+
+    def notices(self):
+        try:
+            done = run([str(WORK / "target/debug" / self.name)], input=self.input)
+        except subprocess.TimeoutExpired:
+            return True
+        return done.returncode != 0 or done.stdout != self.expected
+
+
+def replays(crates):
+    """The programs whose input is a list."""
+    found = {}
+    for name in crates:
+        folder = REPOSITORY / "crates" / name
+        if (folder / "stdin").is_file() and LIST_MARK in (folder / "stdin").read_bytes().split(b"\n")[0]:
+            found[name] = Replay(name, folder)
+    return found
+
+
+class Differential:
+    name = "differential"
+
+    def __init__(self, program, cases):
+        self.command = [str(program), str(cases)]
+        self.environment = dict(os.environ, LD_LIBRARY_PATH=str(WORK / "target/debug"))
+
+    def notices(self):
+        try:
+            return run(self.command, env=self.environment).returncode != 0
+        except subprocess.TimeoutExpired:
+            return True
+
+
+def main():
+    parser = argparse.ArgumentParser()
+    parser.add_argument("--cases", type=int, default=20000)
+    parser.add_argument("--only", default="")
+    options = parser.parse_args()
+
+    prepared = subprocess.run([str(HERE / "prepare.sh")])
+    if prepared.returncode != 0:
+        return prepared.returncode
+    crates = strip.strip_all(REPOSITORY, WORK)
+    errors = build()
+    if errors:
+        raise SystemExit(errors)
+    checks = replays(crates)
+    if strip.EXPORTED in crates:
+        library = WORK / "target/debug/libx86_vcpu.so"
+        checks[strip.EXPORTED] = Differential(build_differential(library), options.cases)
+    wrong = [check.name for check in checks.values() if check.notices()]
+    if wrong:
+        raise SystemExit(f"not a mutant, and yet noticed by {', '.join(wrong)}")
+
+    chosen = [m for m in MUTATIONS if options.only in f"{m.file} {m.old} {m.new}"]
+    print("| file | from | to | noticed by |")
+    print("|---|---|---|---|")
+    counts = {"noticed": 0, "explained": 0, "wrong": 0}
+    for mutation in chosen:
+        kind, verdict = try_mutation(mutation, crates, checks)
+        counts[kind] += 1
+        cell = lambda text: "`" + " ".join(text.split()).replace("|", "\\|") + "`"
+        print(f"| {mutation.file} | {cell(mutation.old)} | {cell(mutation.new)} | {verdict} |", flush=True)
+    print()
+    print(f"{len(chosen)} mutants: {counts['noticed']} noticed, {counts['explained']} survive and are explained, "
+          f"{counts['wrong']} survive unexplained or do not apply")
+    return int(counts["wrong"] != 0)
+
+
+def try_mutation(mutation, crates, checks):
+    """Builds and runs one mutant: its kind and what to say of it."""
+    source = REPOSITORY / "crates" / mutation.file
+    crate, _, inside = mutation.file.partition("/src/")
+    if crate not in crates or not source.is_file():
+        return "wrong", "DOES NOT APPLY: no such file of a listed crate"
+    text = source.read_text()
+    if text.count(mutation.old) != 1:
+        return "wrong", f"DOES NOT APPLY: {text.count(mutation.old)} places"
+    target = (WORK / crate / "src" / inside).with_suffix(".rs")
+    original = target.read_text()
+    target.write_text(strip.stripped(text.replace(mutation.old, mutation.new)))
+    try:
+        errors = build()
+        if errors:
+            return "wrong", "DOES NOT APPLY: it does not compile"
+        affected = dependants(crates, crate)
+        running = [check for name, check in checks.items() if name in affected]
+        for check in running:
+            if check.notices():
+                if mutation.survives:
+                    return "wrong", f"{check.name}, BUT IT WAS SAID TO SURVIVE"
+                return "noticed", check.name
+        if mutation.survives:
+            return "explained", f"none: {mutation.survives}"
+        return "wrong", f"SURVIVES {len(running)} runs"
+    finally:
+        target.write_text(original)
+
+
+if __name__ == "__main__":
+    sys.exit(main())

@@ -1,0 +1,4 @@
+pub mod BitmapLaws
+pub mod PortLaws
+pub mod PartLaws
+pub mod MsrLaws

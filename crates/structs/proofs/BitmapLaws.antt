@@ -1,14 +1,14 @@
 -- Laws of bits of a list of bytes. `bitAt-setBits` says what each bit is after a range is written; those on ports and MSRs follow from it.
 -- Assumes nothing.
 use mathlib.Core.Path.{_≡_, refl, sym, ap, _∙_}
-use mathlib.Core.Bool.{Bool, true, false, cond, _&&_}
+use mathlib.Core.Bool.{Bool, true, false, cond}
 use mathlib.Core.List.{List}
-use mathlib.Core.Logic.{_≢_, dite, _⊎_, inl, inr, ⊎-elim}
-use Prim.Native.Nat.{ℕ, zero, suc, _+_, _-_, _*_, _/_, _%_, _^_, _≤_, _<_}
+use mathlib.Core.Logic.{_≢_, dite}
+use Prim.Native.Nat.{ℕ, zero, suc, _+_, _-_, _*_, _/_, _%_, _≤_, _<_}
 use native.Mathlib.Nat.{add-zero, add-suc, sub-self}
 use native.Mathlib.Decide.{decLe, decLt, ℕ-discrete}
 use native.Mathlib.Omega.{arith}
-use lib.Dec.{T, leb, ltb}
+use lib.Dec.{T}
 use lib.ListN.{length, getD, set, take, drop, length-set, length-drop}
 use lib.Seq.{getD-set-same, getD-set-other, set-out, set-set, set-comm, take-all, ext-getD}
 use borrow.Author.Tests.{lt-ltb, le-ltb, le-leb, lt-leb}
@@ -133,7 +133,7 @@ unfolding setBits
 setBits-join xs n c zero v = rw add-zero
 setBits-join xs n c (suc d) v = rw add-suc (rw (setBits-join xs n c d v) (ap (λ (i : ℕ). setBit (setBits xs n (c + d) v) i v) (omega arith)))
 
-pub next-bits : (xs : List ℕ) (n m t : ℕ) (v : Bool) → n ≤ m → m ≤ t → setBits (setBits xs n (m - n) v) m (t - m) v ≡ setBits xs n (t - n) v
+next-bits : (xs : List ℕ) (n m t : ℕ) (v : Bool) → n ≤ m → m ≤ t → setBits (setBits xs n (m - n) v) m (t - m) v ≡ setBits xs n (t - n) v
 next-bits xs n m t v h k =
     let e : n + (m - n) ≡ m = omega arith in
     let q : m - n + (t - m) ≡ t - n = omega arith in
@@ -148,7 +148,7 @@ pub no-bits : (xs : List ℕ) (n : ℕ) (v : Bool) → xs ≡ setBits xs n (n - 
 unfolding setBits
 no-bits xs n v = rw sub-self
 
-pub one-bit : (xs : List ℕ) (n : ℕ) (v : Bool) → setBits xs n 1 v ≡ setBit xs n v
+one-bit : (xs : List ℕ) (n : ℕ) (v : Bool) → setBits xs n 1 v ≡ setBit xs n v
 unfolding setBits
 one-bit xs n v = ap (λ (i : ℕ). setBit xs i v) (add-zero n)
 
@@ -165,7 +165,7 @@ below-set xs j x l b i =
     (λ h. dite (ℕ-discrete i j) (λ e. rw (e, getD-set-same xs j x 0 h) l) (λ d. rw (getD-set-other xs j i x 0 d) (b i)))
     (λ g. rw (set-out xs j x (omega arith)) (b i))
 
-pub below-setBits : (xs : List ℕ) (n count : ℕ) (v : Bool) → Below 256 xs → Below 256 (setBits xs n count v)
+below-setBits : (xs : List ℕ) (n count : ℕ) (v : Bool) → Below 256 xs → Below 256 (setBits xs n count v)
 unfolding setBits setBit
 below-setBits xs n zero v b = b
 below-setBits xs n (suc count) v b =

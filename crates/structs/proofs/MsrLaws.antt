@@ -1,19 +1,19 @@
 -- Laws of MSR edits: what each number means, what the intercept of each access to each MSR is after an accepted edit, and that edits with no
 -- access to an MSR in common commute. Assumes nothing.
-use mathlib.Core.Path.{_≡_, refl, sym, ap, _∙_}
+use mathlib.Core.Path.{_≡_, refl, ap, _∙_}
 use mathlib.Core.Bool.{Bool, true, false, cond, _&&_, _||_}
 use mathlib.Core.List.{List, [], _∷_, _++_}
-use mathlib.Core.Logic.{_≢_, dite, _⊎_, inl, inr, ⊎-elim, _↔_}
-use Prim.Native.Nat.{ℕ, zero, suc, _+_, _-_, _*_, _%_, _≤_, _<_}
+use mathlib.Core.Logic.{_≢_, dite, _⊎_, inl, inr, ⊎-elim}
+use Prim.Native.Nat.{ℕ, _+_, _-_, _*_, _≤_, _<_}
 use native.Mathlib.Decide.{decLe, decLt, ℕ-discrete}
 use native.Mathlib.Omega.{arith}
-use lib.Dec.{T, eqb, eqb→eq, ltb}
+use lib.Dec.{T, eqb, eqb→eq}
 use lib.ListN.{length}
 use borrow.Author.Tests.{lt-ltb, le-ltb, le-leb, lt-leb, eq-eqb, ne-eqb}
 use Rattle.structs.specs.declared.Access.{Access}
 use Rattle.structs.specs.declared.Access.the-variants.{Read, Write}
-use Rattle.structs.specs.Bitmap.{bitAt, setBits, inRange}
-use Rattle.structs.specs.Frames.{quarterOf, msrIndex, msrIntercept, sameAccess, among, covered, setMsrs, msrRefusal, MsrEdit, editMsrs}
+use Rattle.structs.specs.Bitmap.{setBits, inRange}
+use Rattle.structs.specs.Frames.{quarterOf, msrIndex, msrIntercept, sameAccess, among, covered, setMsrs, msrRefusal, editMsrs}
 use Rattle.structs.specs.Numbers.{Low, High, MsrNumbers}
 use Rattle.structs.proofs.BitmapLaws.{length-setBits, inside, outside, in-range, by-range, setBits-comm, guarded-comm}
 
@@ -60,6 +60,7 @@ module _ (len base count : ℕ) where
 
 -- ---- where the bits of a range lie
 
+-- reads are 0 and writes 1, so that the quarter of an access is linear in it
 abbrev number : Access → ℕ
 number Read = 0
 number Write = 1
@@ -95,17 +96,16 @@ quarter-le x msr =
     dite (decLt msr 0x2000) (λ l. omega (arith, quarter-low x msr l, number-le x)) (λ g. omega (arith, quarter-high x msr (omega arith), number-le x))
 
 -- the bits of a range lie within the frame
-pub msr-fits : (x : Access) (base count : ℕ) → Low base count ⊎ High base count → msrIndex x base + count ≤ 32768
+msr-fits : (x : Access) (base count : ℕ) → Low base count ⊎ High base count → msrIndex x base + count ≤ 32768
 msr-fits x base count = ⊎-elim (λ l. omega (arith, quarter-le x base)) (λ h. omega (arith, quarter-le x base))
 
 pub msr-accepted : (x : Access) (len base count : ℕ) → msrRefusal len base (base + count) ≡ 0 → (len ≡ 4096) × (msrIndex x base + count ≤ 32768)
 msr-accepted x len base count e = let n = numbers len base count .is-0 .0 e in (n .0, msr-fits x base count (n .1))
 
--- an MSR is a half (0: low, 1: high) and the rest, and its bit i the number n of the access, that half and that rest
+-- base is a half (0: low, 1: high) and the rest, and its bit i the number n of the access, that half and that rest
 record Place (n base count i : ℕ) : Type 0 where
   half : ℕ
   rest : ℕ
-  number-le : n ≤ 1
   half-le : half ≤ 1
   fits : rest + count ≤ 0x2000
   msr : base ≡ half * 0x6_0000 * 0x2000 + rest
@@ -115,23 +115,22 @@ place-of : (x : Access) (base count : ℕ) → 0 < count → Low base count ⊎ 
 place-of x base count pos =
     ⊎-elim
     (λ l. let q = quarter-low x base (omega arith) in
-    record { half = 0; rest = base; number-le = number-le x; half-le = omega arith; fits = omega arith; msr = omega arith; index = omega arith })
+    record { half = 0; rest = base; half-le = omega arith; fits = omega arith; msr = omega arith; index = omega arith })
     (λ h. let q = quarter-high x base (omega arith) in
-    record { half = 1; rest = base - 0xC000_0000; number-le = number-le x; half-le = omega arith; fits = omega arith; msr = omega arith; index = omega arith })
+    record { half = 1; rest = base - 0xC000_0000; half-le = omega arith; fits = omega arith; msr = omega arith; index = omega arith })
 
 -- the MSR that bit t of those of a range stands for
 msr-at : (n base count i t : ℕ) → Place n base count i → i ≤ t → t < i + count → Place n (base + (t - i)) 1 t
 msr-at n base count i t p h l = record {
   half = p .half;
   rest = p .rest + (t - i);
-  number-le = p .number-le;
   half-le = p .half-le;
   fits = omega arith;
   msr = omega arith;
   index = omega arith;
 }
 
--- a range that stays within a block of 0x2000, and a number in it
+-- a number that lies in a range of one block of 0x2000 lies in that block; and the other way
 same-block : (n k r s count : ℕ) → r + count ≤ 0x2000 → s + 1 ≤ 0x2000 → n * 0x2000 + r ≤ k * 0x2000 + s → k * 0x2000 + s < n * 0x2000 + r + count → (n ≡ k) × (r ≤ s) × (s < r + count)
 same-block n k r s count f g h i = let e : n ≡ k = omega arith in omega arith
 
@@ -157,7 +156,7 @@ module _ (n k base count m i j : ℕ) (p : Place n base count i) (q : Place k m 
 
 -- ---- what an edit leaves
 
--- one access
+-- the intercept of y to m after one access x to a range is written
 one-access : (xs : List ℕ) (x y : Access) (base count m : ℕ) (v : Bool) → length xs ≡ 4096 → Low base count ⊎ High base count → Low m 1 ⊎ High m 1
     → msrIntercept (setBits xs (msrIndex x base) count v) y m ≡ cond (sameAccess x y && inRange base count m) v (msrIntercept xs y m)
 one-access xs x y base count m v len r s =
@@ -177,6 +176,7 @@ unfolding setMsrs
 length-setMsrs xs base count [] v = refl
 length-setMsrs xs base count (x ∷ accesses) v = length-setMsrs (setBits xs (msrIndex x base) count v) base count accesses v ∙ length-setBits xs (msrIndex x base) count v
 
+-- what is written twice is written where either wrote
 merge : (p q r v w : Bool) → cond (q && r) v (cond (p && r) v w) ≡ cond ((p || q) && r) v w
 merge true true true v w = refl
 merge true true false v w = refl
@@ -248,15 +248,13 @@ among-head : (z : Access) (l : List Access) → T (among (z ∷ l) z)
 among-head Read l = tt
 among-head Write l = tt
 
--- no access to an MSR is one of both
-abbrev Disjoint : ℕ → ℕ → List Access → ℕ → ℕ → List Access → Type 0
-Disjoint f c l g d k = (x : Access) (m : ℕ) → T (covered f c l x m) → T (covered g d k x m) → ⊥
-
 and-intro : (x y : Bool) → T x → T y → T (x && y)
 and-intro true y s t = t
 and-intro false y s t = s
 
-bits-apart : (f c : ℕ) (l : List Access) (g d : ℕ) (k : List Access) → Low f c ⊎ High f c → Low g d ⊎ High g d → Disjoint f c l g d k
+-- if two edits share no access to an MSR, they share no bit
+bits-apart : (f c : ℕ) (l : List Access) (g d : ℕ) (k : List Access) → Low f c ⊎ High f c → Low g d ⊎ High g d
+    → ((x : Access) (m : ℕ) → T (covered f c l x m) → T (covered g d k x m) → ⊥)
     → (x y : Access) → T (among l x) → T (among k y)
     → (t : ℕ) → msrIndex x f ≤ t → t < msrIndex x f + c → msrIndex y g ≤ t → t < msrIndex y g + d → ⊥
 bits-apart f c l g d k r s apart x y a b t h i j o =

@@ -1,5 +1,5 @@
 -- Laws of the part that holds a port: it is not empty, and an accepted edit of one port changes its first byte. Assumes nothing.
-use mathlib.Core.Path.{_≡_, refl, sym, ap, _∙_}
+use mathlib.Core.Path.{_≡_}
 use mathlib.Core.Bool.{Bool}
 use mathlib.Core.List.{List}
 use mathlib.Core.Logic.{dite}
@@ -13,7 +13,7 @@ use denote.Ref.{RefT, now}
 use borrow.Author.Tests.{lt-ltb, le-ltb, eq-eqb}
 use Rattle.bits.specs.Words.{withBit}
 use Rattle.structs.specs.Bitmap.{setBit}
-use Rattle.structs.specs.Frames.{portIndex, setPort, setPorts, portRefusal, PortEdit, editPorts}
+use Rattle.structs.specs.Frames.{portIndex, setPort, setPorts, portRefusal, editPorts}
 use Rattle.structs.specs.PortPart.{Part, portPart}
 
 module _ (a b : RefT (List ℕ)) (port : ℕ) (part : Part) (e : part ≡ portPart a b port) (la : length (now a) ≡ 4096) (lb : length (now b) ≡ 4096) where

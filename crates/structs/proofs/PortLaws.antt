@@ -1,17 +1,17 @@
 -- Laws of port edits: what each number means, what each port's intercept is after an accepted edit, and that edits with no port in common commute.
--- Assumes nothing.
-use mathlib.Core.Path.{_≡_, refl, sym, ap, _∙_}
+-- An edit of ports and one of MSRs are of different frames: neither definition mentions the other's, so there is no law to state. Assumes nothing.
+use mathlib.Core.Path.{_≡_, refl}
 use mathlib.Core.Bool.{Bool, true, false, cond}
 use mathlib.Core.List.{List}
 use mathlib.Core.Logic.{_≢_, dite, _⊎_, inl, inr, ⊎-elim, _↔_}
-use Prim.Native.Nat.{ℕ, zero, suc, _+_, _-_, _*_, _≤_, _<_, min}
+use Prim.Native.Nat.{ℕ, zero, suc, _+_, _-_, _≤_, _<_, min}
 use native.Mathlib.Decide.{decLt, ℕ-discrete}
 use native.Mathlib.Omega.{arith}
-use lib.Dec.{T, eqb, ltb}
+use lib.Dec.{T, eqb}
 use lib.ListN.{length}
 use borrow.Author.Tests.{lt-ltb, le-ltb, eq-eqb, ne-eqb}
-use Rattle.structs.specs.Bitmap.{bitAt, setBit, setBits, inRange}
-use Rattle.structs.specs.Frames.{inA, portIndex, portIntercept, IOBitmap, setPort, setPorts, portRefusal, PortEdit, framesOf, editPorts}
+use Rattle.structs.specs.Bitmap.{setBit, setBits, inRange}
+use Rattle.structs.specs.Frames.{portIndex, portIntercept, IOBitmap, setPort, setPorts, portRefusal, framesOf, editPorts}
 use Rattle.structs.specs.Numbers.{PortNumbers}
 use Rattle.structs.proofs.BitmapLaws.{length-setBits, inside, outside, by-range, in-range, setBits-comm, next-bit, guarded-comm}
 
@@ -91,6 +91,7 @@ module _ (xs : List ℕ) (base p : ℕ) (v : Bool) where
 both : {a c b d : List ℕ} → a ≡ c → b ≡ d → _≡_ {A = IOBitmap} (record { a = a; b = b }) (record { a = c; b = d })
 both p q i = record { a = p i; b = q i }
 
+-- a range of ports is a range of bits of A and one of B, each perhaps empty
 pub setPorts-frames : (io : IOBitmap) (base count : ℕ) (v : Bool) → setPorts io base count v ≡ record { a = bitsOfA (io .a) base (base + count) v; b = bitsOfB (io .b) base (base + count) v }
 unfolding setPorts setPort portIndex setBits
 setPorts-frames io base zero v =

@@ -11,13 +11,20 @@ unfoldable pub fullByte : Bool → ℕ
 fullByte true = 255
 fullByte false = 0
 
--- bit n: bit n mod 8 of byte n / 8. It is 0 past the end
+-- the byte that holds bit n, and the bit of that byte
+abbrev pub byteOf : ℕ → ℕ
+byteOf n = n / 8
+
+abbrev pub bitOf : ℕ → ℕ
+bitOf n = n % 8
+
+-- bit n. It is 0 past the end
 abbrev pub bitAt : List ℕ → ℕ → Bool
-bitAt xs n = bit (n % 8) (getD xs (n / 8) 0)
+bitAt xs n = bit (bitOf n) (getD xs (byteOf n) 0)
 
 -- the list with bit n made v
 unfoldable pub setBit : List ℕ → ℕ → Bool → List ℕ
-setBit xs n v = set xs (n / 8) (withBit (n % 8) v (getD xs (n / 8) 0))
+setBit xs n v = set xs (byteOf n) (withBit (bitOf n) v (getD xs (byteOf n) 0))
 
 -- the list with bits n, n + 1, .., n + count - 1 made v
 unfoldable pub setBits : List ℕ → ℕ → ℕ → Bool → List ℕ

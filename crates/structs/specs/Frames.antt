@@ -1,13 +1,14 @@
--- The intercept frames of document 01, "Bitmaps": I/O bitmaps A and B (SDM 3C, 25.6.4) and the MSR bitmap (SDM 3C, 25.6.9), each a list of 4,096 bytes.
--- A bit that is 1 intercepts. An edit answers 0, or the number of its refusal, and each frame as it leaves it. Assumes nothing.
+-- The intercept frames, each a list of 4,096 bytes: I/O bitmaps A and B (SDM 3C, 25.6.4) and the MSR bitmap (SDM 3C, 25.6.9). A bit that is 1
+-- intercepts. The places of bits are those of document 01, "Bitmaps"; the numbers of refusals those of "The operations and their numbers".
+-- Assumes nothing.
 use mathlib.Core.Bool.{Bool, true, false, not, cond, _&&_, _||_}
 use mathlib.Core.List.{List, [], _∷_}
-use Prim.Native.Nat.{ℕ, zero, suc, _+_, _-_, _*_, _/_, _%_}
+use Prim.Native.Nat.{ℕ, zero, suc, _+_, _-_, _*_, _%_}
 use lib.Dec.{eqb, leb, ltb}
 use lib.ListN.{length}
 use Rattle.structs.specs.declared.Access.{Access}
 use Rattle.structs.specs.declared.Access.the-variants.{Read, Write}
-use Rattle.structs.specs.Bitmap.{bitAt, setBit, setBits, inRange}
+use Rattle.structs.specs.Bitmap.{byteOf, bitOf, bitAt, setBit, setBits, inRange}
 
 -- ---- ports
 
@@ -21,10 +22,10 @@ portIndex port = cond (inA port) port (port - 0x8000)
 
 -- the byte of the frame that holds it, and the bit of that byte
 abbrev pub portByte : ℕ → ℕ
-portByte port = portIndex port / 8
+portByte port = byteOf (portIndex port)
 
 abbrev pub portBit : ℕ → ℕ
-portBit port = portIndex port % 8
+portBit port = bitOf (portIndex port)
 
 -- the intercept of a port
 unfoldable pub portIntercept : List ℕ → List ℕ → ℕ → Bool
@@ -47,7 +48,7 @@ unfoldable pub setPorts : IOBitmap → ℕ → ℕ → Bool → IOBitmap
 setPorts io base zero v = io
 setPorts io base (suc count) v = setPort (setPorts io base count v) (base + count) v
 
--- 2: a frame is not 4,096 bytes long. 10: count is above 0, and the last port above 65,535
+-- the refusal of an edit, or 0. 2: a frame is not 4,096 bytes long. 10: count is above 0, and the last port above 65,535
 unfoldable pub portRefusal : ℕ → ℕ → ℕ → ℕ → ℕ
 portRefusal lengthA lengthB base count =
     cond (not (eqb lengthA 4096)) 2
@@ -56,12 +57,12 @@ portRefusal lengthA lengthB base count =
     (cond (ltb 0x1_0000 (base + count)) 10
     0)))
 
+-- what an edit of ports answers: its refusal, or 0, and the frames as it leaves them
 pub record PortEdit : Type 0 where
   pub refusal : ℕ
   pub a : List ℕ
   pub b : List ℕ
 
--- the frames that an edit leaves
 abbrev pub framesOf : PortEdit → IOBitmap
 framesOf e = record { a = e .a; b = e .b }
 
@@ -75,21 +76,21 @@ editPorts a b base count v =
 
 -- ---- MSRs
 
--- the frame's quarters, of 1,024 bytes each: read low, read high, write low, write high. MSRs 0 to 0x1FFF are low, 0xC0000000 to 0xC0001FFF high
+-- the quarter of the frame, of 1,024 bytes: read low, read high, write low, write high. MSRs 0 to 0x1FFF are low, 0xC0000000 to 0xC0001FFF high
 unfoldable pub quarterOf : Access → ℕ → ℕ
 quarterOf Read msr = cond (ltb msr 0x2000) 0 1
 quarterOf Write msr = cond (ltb msr 0x2000) 2 3
 
--- the bit of an access to an MSR
+-- the bit of an access to an MSR in the frame
 abbrev pub msrIndex : Access → ℕ → ℕ
 msrIndex access msr = quarterOf access msr * 0x2000 + msr % 0x2000
 
 -- the byte of the frame that holds it, and the bit of that byte
 abbrev pub msrByte : Access → ℕ → ℕ
-msrByte access msr = msrIndex access msr / 8
+msrByte access msr = byteOf (msrIndex access msr)
 
 abbrev pub msrBit : Access → ℕ → ℕ
-msrBit access msr = msrIndex access msr % 8
+msrBit access msr = bitOf (msrIndex access msr)
 
 -- the intercept of an access to an MSR
 abbrev pub msrIntercept : List ℕ → Access → ℕ → Bool
@@ -115,7 +116,7 @@ unfoldable pub setMsrs : List ℕ → ℕ → ℕ → List Access → Bool → L
 setMsrs xs base count [] v = xs
 setMsrs xs base count (x ∷ accesses) v = setMsrs (setBits xs (msrIndex x base) count v) base count accesses v
 
--- 2: the frame is not 4,096 bytes long. 11: the MSRs from, from + 1, .., to - 1 are neither all low nor all high
+-- the refusal of an edit, or 0. 2: the frame is not 4,096 bytes long. 11: the MSRs from, from + 1, .., to - 1 are neither all low nor all high
 unfoldable pub msrRefusal : ℕ → ℕ → ℕ → ℕ
 msrRefusal len from to =
     cond (not (eqb len 4096)) 2
@@ -124,6 +125,7 @@ msrRefusal len from to =
     (cond (ltb 0xC000_2000 to) 11
     0)))
 
+-- what an edit of MSRs answers: its refusal, or 0, and the frame as it leaves it
 pub record MsrEdit : Type 0 where
   pub refusal : ℕ
   pub frame : List ℕ

@@ -1,5 +1,5 @@
 -- The part of an I/O frame that holds a port (document 01, "Forms that stand in the way"), as its bytes and the place where it lies. Assumes nothing.
-use mathlib.Core.Bool.{Bool, not, cond}
+use mathlib.Core.Bool.{not, cond}
 use mathlib.Core.List.{List}
 use Prim.Native.Nat.{ℕ, _+_}
 use lib.Dec.{eqb, ltb}

@@ -7,8 +7,8 @@ ghost use lib.ListN.{length};
 ghost use denote.Ref.{ptr};
 ghost use Rattle.bits.specs.Words.{withBit};
 ghost use Rattle.structs.specs.Bitmap.{fullByte, setBits};
-ghost use Rattle.structs.specs.Frames.{IOBitmap, setPorts, PortEdit, editPorts, quarterOf, msrRefusal, MsrEdit, editMsrs};
-ghost use Rattle.structs.specs.PortPart.{Part, partFrom, portPart};
+ghost use Rattle.structs.specs.Frames.{setPorts, editPorts, quarterOf, msrRefusal, editMsrs};
+ghost use Rattle.structs.specs.PortPart.{partFrom, portPart};
 ghost use Rattle.structs.specs.EPTPointer.{eptPointer};
 
 // The bytes of a frame.

@@ -3,9 +3,10 @@ use mathlib.Core.Path.{_≡_, refl}
 use mathlib.Core.List.{map}
 use Rattle.definitions.specs.Interruption.{typeNumber, fromVector}
 use Rattle.vmcs.specs.Control.{controlWord, setControl}
+use Rattle.structs.specs.EPTPointer.{eptPointer}
 use Rattle.structs.specs.Frames.{portIndex, quarterOf}
 use Rattle.worked.specs.Worked.{Case, worked}
 
 pub all-as-wanted : map (λ (c : Case). c .given) worked ≡ map (λ (c : Case). c .wanted) worked
-unfolding controlWord setControl typeNumber fromVector portIndex quarterOf
+unfolding controlWord setControl typeNumber fromVector eptPointer portIndex quarterOf
 all-as-wanted = refl

@@ -4,7 +4,6 @@ use mathlib.Core.List.{List}
 use Prim.Native.Nat.{ℕ, _≤_, _-_}
 use native.Mathlib.Omega.{arith}
 use lib.ListN.{length, length-set}
-use borrow.Author.Needs.{needs}
 use Rattle.structs.specs.Bitmap.{setBit, setBits}
 use Rattle.structs.proofs.BitmapLaws.{no-bits, next-bit}
 use Rattle.structs.proofs.set_each.Statement.{statement}

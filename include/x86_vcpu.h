@@ -22,8 +22,17 @@ extern "C" {
 
 /* ---- Numbers of refusals ---- */
 
-/* A buffer has another length than the function asks for, or a yes/no byte is neither 0 nor 1. */
+/* The session is in another phase than the call needs. */
+#define VCPU_REFUSED_PHASE 1
+/*
+ * A buffer has another length than the function asks for, a yes/no argument is neither 0 nor 1, or the bytes are no record: its phase is
+ * above 4, more than 64 events wait, it has more held entries than entries, or one of its yes/no bytes is neither 0 nor 1.
+ */
 #define VCPU_REFUSED_BYTES 2
+/* Fields: no such encoding; a write of a read-only field; a value wider than the field. */
+#define VCPU_REFUSED_ENCODING 3
+#define VCPU_REFUSED_READ_ONLY 4
+#define VCPU_REFUSED_WIDTH 5
 /* Control word: allowed-0 has a bit that allowed-1 lacks. */
 #define VCPU_REFUSED_PAIR 6
 /* Control word: a bit is to be both set and cleared. */
@@ -37,10 +46,147 @@ extern "C" {
 /* MSRs: outside 0 to 0x1FFF and 0xC0000000 to 0xC0001FFF. */
 #define VCPU_REFUSED_MSR 11
 
+/* Interrupts: vector 0 or above 255. */
+#define VCPU_REFUSED_VECTOR 12
+/* Events: 64 events wait already. */
+#define VCPU_REFUSED_FULL 13
+/* Addresses: the sum passes 2^64 - 1. */
+#define VCPU_REFUSED_SUM 17
+/* Entry: the count of entries is at its end, 2^32 - 1. */
+#define VCPU_REFUSED_COUNT 22
+/* Registers: index 4 (the place of RSP, which is a field) or above 15. */
+#define VCPU_REFUSED_INDEX 23
+
 /* ---- Sizes ---- */
+
+/* The length in bytes of a session's record. */
+#define VCPU_RECORD_LENGTH 1525
 
 /* The length in bytes of an intercept frame: I/O bitmap A, I/O bitmap B, MSR bitmaps (SDM 3C, 25.6.4 and 25.6.9). */
 #define VCPU_FRAME_LENGTH 4096
+
+/* ---- Layout of a record ----
+ * Nothing lies between the parts, and numbers stand least significant byte first. The functions below read and write every part; the offsets
+ * are for tools that keep or show records.
+ */
+
+/* Where the session stands: phase (1 byte), launched (1, yes/no), accepted entries (4), entries that held an event (4). */
+#define VCPU_OFFSET_PHASE 0
+#define VCPU_OFFSET_LAUNCHED 1
+#define VCPU_OFFSET_ENTRIES 2
+#define VCPU_OFFSET_HELD 6
+/* Sixteen registers of 8 bytes, in the order of their encoding: RAX RCX RDX RBX (unused) RBP RSI RDI R8 .. R15. */
+#define VCPU_OFFSET_REGS 10
+/* The fields by width, each group by ascending encoding: 17 of 2 bytes, 50 of 4, 41 of 8, 46 natural ones of 8. */
+#define VCPU_OFFSET_W16 138
+#define VCPU_OFFSET_W32 172
+#define VCPU_OFFSET_W64 372
+#define VCPU_OFFSET_NATURAL 700
+/* The queue, its front first: how many events wait (1), vectors (64), yes/no whether each has an error code (64), codes (64 of 4). */
+#define VCPU_OFFSET_WAITING 1068
+#define VCPU_OFFSET_VECTORS 1069
+#define VCPU_OFFSET_CODED 1133
+#define VCPU_OFFSET_CODES 1197
+/* Kept from setup: five pairs allowed-0 (4), allowed-1 (4), for pin, primary, secondary, exit, entry; CR0 and CR4 fixed-0 (8), fixed-1 (8). */
+#define VCPU_OFFSET_PAIRS 1453
+#define VCPU_OFFSET_CR0 1493
+#define VCPU_OFFSET_CR4 1509
+
+/* ---- Phases ---- */
+
+#define VCPU_FRESH 0
+#define VCPU_READY 1
+#define VCPU_RUNNING 2
+/* An APIC register is read: vcpu_apic_value brings its value. */
+#define VCPU_WAITING 3
+#define VCPU_ENDED 4
+
+/* ---- Sessions ----
+ * A record is tested whole before anything else: every function that takes one answers VCPU_REFUSED_BYTES first.
+ */
+
+/*
+ * Makes a new session: a fresh record, all zero, and three frames that intercept nothing. Only the lengths are looked at.
+ * Refusals: VCPU_REFUSED_BYTES.
+ */
+uint32_t vcpu_new(uint8_t *record, size_t length, uint8_t *a, size_t a_length, uint8_t *b, size_t b_length, uint8_t *msr,
+                  size_t msr_length);
+
+/*
+ * Queues an event last: its vector and, where coded is 1, its error code (code does not matter where coded is 0).
+ * Refusals: VCPU_REFUSED_BYTES, VCPU_REFUSED_PHASE (ended), VCPU_REFUSED_FULL.
+ */
+uint32_t vcpu_queue_event(uint8_t *record, size_t length, uint8_t vector, uint8_t coded, uint32_t code);
+
+/*
+ * Queues an interrupt without an error code. The vector is judged whole. Vectors 1 to 31 go in as exceptions do.
+ * Refusals: VCPU_REFUSED_BYTES, VCPU_REFUSED_PHASE (ended), VCPU_REFUSED_VECTOR, VCPU_REFUSED_FULL.
+ */
+uint32_t vcpu_inject_interrupt(uint8_t *record, size_t length, uint64_t vector);
+
+/* What an entry does with the front of the queue: none waits; it is held back and interrupt-window exiting is set; its word is written. */
+#define VCPU_EVENT_NONE 0
+#define VCPU_EVENT_HELD 1
+#define VCPU_EVENT_WRITTEN 2
+
+/*
+ * An entry into the guest, which the host then makes: *resumed is 0 for VMLAUNCH (the first entry) and 1 for VMRESUME, *event what became
+ * of the front of the queue. host_stack is stored in the field host RSP at the first entry only. An event whose vector is 32 or more is
+ * held while RFLAGS.IF is clear or interruptibility is not 0. A written event is in the entry interruption field, with its code and length.
+ * Refusals: VCPU_REFUSED_BYTES, VCPU_REFUSED_PHASE (not ready), VCPU_REFUSED_COUNT.
+ */
+uint32_t vcpu_entry(uint8_t *record, size_t length, uint64_t host_stack, uint8_t *resumed, uint8_t *event);
+
+/*
+ * Brings the value of the APIC register that the guest reads: RAX gets its low half, RDX its high half, and the session is ready.
+ * Refusals: VCPU_REFUSED_BYTES, VCPU_REFUSED_PHASE (not waiting).
+ */
+uint32_t vcpu_apic_value(uint8_t *record, size_t length, uint64_t value);
+
+/*
+ * Reads or writes a field of the VMCS by its encoding (SDM 3D, appendix B), in any phase. The encoding is judged whole.
+ * Refusals: VCPU_REFUSED_BYTES, VCPU_REFUSED_ENCODING; of a write then VCPU_REFUSED_READ_ONLY, VCPU_REFUSED_WIDTH.
+ */
+uint32_t vcpu_read_field(const uint8_t *record, size_t length, uint64_t encoding, uint64_t *value);
+uint32_t vcpu_write_field(uint8_t *record, size_t length, uint64_t encoding, uint64_t value);
+
+/*
+ * Reads or writes a general-purpose register by its encoding in an instruction, in any phase. The index is judged whole.
+ * Refusals: VCPU_REFUSED_BYTES, VCPU_REFUSED_INDEX.
+ */
+uint32_t vcpu_get_reg_of_index(const uint8_t *record, size_t length, uint64_t index, uint64_t *value);
+uint32_t vcpu_set_reg_of_index(uint8_t *record, size_t length, uint64_t index, uint64_t value);
+
+/* Where the session stands: its phase, whether it was launched, how many events wait, its accepted entries, those that held an event. */
+uint32_t vcpu_get_counts(const uint8_t *record, size_t length, uint8_t *phase, uint8_t *launched, uint8_t *waiting, uint32_t *entries,
+                         uint32_t *held);
+
+/* The mode of the guest's CPU, told by the host's IA32_EFER (LMA), the guest's CS access rights and CR0. */
+#define VCPU_MODE_REAL 0
+#define VCPU_MODE_PROTECTED 1
+#define VCPU_MODE_COMPATIBILITY 2
+#define VCPU_MODE_64 3
+uint32_t vcpu_get_cpu_mode(const uint8_t *record, size_t length, uint64_t host_efer, uint32_t *mode);
+
+/*
+ * What a walk of the guest's page tables starts from: CR3, the number of levels (0 without paging, 2, 3 or 4), how many bits of an address
+ * each level takes, and VCPU_WALK_ flags.
+ */
+#define VCPU_WALK_USER 1
+#define VCPU_WALK_WRITE 2
+#define VCPU_WALK_FETCH 4
+#define VCPU_WALK_PSE 8
+#define VCPU_WALK_WP 16
+#define VCPU_WALK_NXE 32
+#define VCPU_WALK_SMAP 64
+#define VCPU_WALK_SMEP 128
+uint32_t vcpu_get_ptw_info(const uint8_t *record, size_t length, uint64_t *top_entry, uint8_t *level, uint8_t *width, uint32_t *flags);
+
+/*
+ * A guest address with the base of its code segment added (none in 64-bit mode).
+ * Refusals: VCPU_REFUSED_BYTES, VCPU_REFUSED_SUM.
+ */
+uint32_t vcpu_gla2gva(const uint8_t *record, size_t length, uint64_t host_efer, uint64_t address, uint64_t *linear);
 
 /* ---- Control words ---- */
 

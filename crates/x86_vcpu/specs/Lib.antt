@@ -1,2 +1,4 @@
 -- The definitions that the contracts of the exported functions cite.
 pub mod Calls
+pub mod Records
+pub mod Reads

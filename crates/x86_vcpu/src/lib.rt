@@ -2,6 +2,10 @@
 // A yes/no argument is a byte, refused by 2 unless it is 0 or 1.
 ghost use mathlib.Core.Path.{_≡_};
 ghost use Rattle.x86_vcpu.specs.Calls.{controlCall, portCall, msrCall, reads, writes, both};
+
+pub mod readings;
+pub mod session;
+
 use vmcs::controls::ControlAnswer;
 use vmcs::controls::Pair;
 

@@ -1,0 +1,421 @@
+/*
+ * The calls on a session, from C: 1,000,000 calls (or as many as the first argument says) on lawful records, mutated ones and random bytes,
+ * each against a model written from document 01 over the record's bytes. Every byte and result is compared; the share of accepted calls is
+ * printed for each function. Then the edges of document 01.
+ */
+#include "x86_vcpu.h"
+
+#include <stdio.h>
+#include <stdlib.h>
+#include <string.h>
+
+#include "fields.h"
+
+enum { FIELDS = sizeof fields / sizeof fields[0], N = VCPU_RECORD_LENGTH };
+
+static uint64_t state = 0x2545F4914F6CDD1Du;
+
+static uint64_t any(void)
+{
+    state ^= state << 13;
+    state ^= state >> 7;
+    state ^= state << 17;
+    return state;
+}
+
+static unsigned below(unsigned n)
+{
+    return (unsigned)((any() >> 20) % n);
+}
+
+static void fail(const char *what)
+{
+    fprintf(stderr, "session: failed: %s\n", what);
+    exit(1);
+}
+
+#define CHECK(e) ((e) ? (void)0 : fail(#e))
+
+static uint64_t get(const uint8_t *r, unsigned at, unsigned size)
+{
+    uint64_t x = 0;
+
+    while (size--)
+        x = x << 8 | r[at + size];
+    return x;
+}
+
+static void put(uint8_t *r, unsigned at, unsigned size, uint64_t x)
+{
+    for (; size--; at++, x >>= 8)
+        r[at] = (uint8_t)x;
+}
+
+static unsigned place(uint64_t encoding)
+{
+    unsigned i;
+
+    for (i = 0; i < FIELDS && fields[i].encoding != encoding; i++)
+        ;
+    return i;
+}
+
+static uint64_t field(const uint8_t *r, uint64_t encoding)
+{
+    unsigned i = place(encoding);
+
+    return get(r, fields[i].offset, fields[i].width);
+}
+
+static void set_field(uint8_t *r, uint64_t encoding, uint64_t x)
+{
+    unsigned i = place(encoding);
+
+    put(r, fields[i].offset, fields[i].width, x);
+}
+
+/* ---- the model: each function changes r as the call should, and gives the number ---- */
+
+static int lawful(const uint8_t *r, size_t length)
+{
+    unsigned i;
+
+    if (length != N || r[0] > 4 || r[1] > 1 || get(r, 6, 4) > get(r, 2, 4) || r[1068] > 64)
+        return 0;
+    for (i = 0; i < 64; i++)
+        if (r[1133 + i] > 1)
+            return 0;
+    return 1;
+}
+
+static uint32_t model_push(uint8_t *r, uint8_t vector, uint8_t coded, uint32_t code)
+{
+    unsigned at = r[1068];
+
+    if (at >= 64)
+        return 13;
+    r[1069 + at] = vector;
+    r[1133 + at] = coded;
+    put(r, 1197 + 4 * at, 4, coded ? code : 0);
+    r[1068]++;
+    return 0;
+}
+
+static uint32_t model_entry(uint8_t *r, uint64_t stack, uint8_t *resumed, uint8_t *event)
+{
+    static const uint8_t codes[] = {8, 10, 11, 12, 13, 14, 17};
+    unsigned v = r[1069], type, code = 0;
+
+    if (r[0] != VCPU_READY)
+        return 1;
+    if (get(r, 2, 4) == 0xFFFFFFFF)
+        return 22;
+    *resumed = r[1];
+    if (!r[1])
+        set_field(r, 0x6C14, stack);
+    r[0] = VCPU_RUNNING;
+    r[1] = 1;
+    put(r, 2, 4, get(r, 2, 4) + 1);
+    *event = VCPU_EVENT_NONE;
+    if (r[1068] == 0)
+        return 0;
+    if (v >= 32 && (!(field(r, 0x6820) >> 9 & 1) || field(r, 0x4824) != 0)) {
+        *event = VCPU_EVENT_HELD;
+        put(r, 6, 4, get(r, 6, 4) + 1);
+        set_field(r, 0x4002, field(r, 0x4002) | 4);
+        return 0;
+    }
+    *event = VCPU_EVENT_WRITTEN;
+    type = v == 1 ? 5 : v == 2 ? 2 : v == 3 || v == 4 ? 6 : v <= 20 ? 3 : v <= 31 ? 7 : 0;
+    if (memchr(codes, (int)v, sizeof codes)) {
+        code = 1;
+        set_field(r, 0x4018, r[1133] ? get(r, 1197, 4) : field(r, 0x4406));
+    }
+    if (type == 4 || type == 5 || type == 6)
+        set_field(r, 0x401A, field(r, 0x440C));
+    set_field(r, 0x4016, 0x80000000u | code << 11 | type << 8 | v);
+    r[1068]--;
+    memmove(r + 1069, r + 1070, 63);
+    r[1069 + 63] = 0;
+    memmove(r + 1133, r + 1134, 63);
+    r[1133 + 63] = 0;
+    memmove(r + 1197, r + 1201, 252);
+    put(r, 1197 + 252, 4, 0);
+    return 0;
+}
+
+static uint32_t model_mode(const uint8_t *r, uint64_t efer)
+{
+    if (efer >> 10 & 1)
+        return field(r, 0x4816) >> 13 & 1 ? VCPU_MODE_64 : VCPU_MODE_COMPATIBILITY;
+    return field(r, 0x6800) & 1 ? VCPU_MODE_PROTECTED : VCPU_MODE_REAL;
+}
+
+static uint32_t model_flags(const uint8_t *r, unsigned *level, unsigned *width)
+{
+    uint64_t cr0 = field(r, 0x6800), cr4 = field(r, 0x6804), efer = field(r, 0x2806);
+    int pse, nxe;
+
+    *level = !(cr0 >> 31 & 1) ? 0 : !(cr4 >> 5 & 1) ? 2 : efer >> 10 & 1 ? 4 : 3;
+    *width = *level == 0 ? 0 : *level == 2 ? 10 : 9;
+    pse = *level == 2 ? (int)(cr4 >> 4 & 1) : 1;
+    nxe = *level == 2 ? 0 : (int)(efer >> 11 & 1);
+    return ((field(r, 0x4818) >> 5 & 3) == 3 ? VCPU_WALK_USER : 0) | (pse ? VCPU_WALK_PSE : 0) | (cr0 >> 16 & 1 ? VCPU_WALK_WP : 0) |
+           (nxe ? VCPU_WALK_NXE : 0) | (cr4 >> 21 & 1 ? VCPU_WALK_SMAP : 0) | (cr4 >> 20 & 1 ? VCPU_WALK_SMEP : 0);
+}
+
+/* ---- records to call on ---- */
+
+static void random_lawful(uint8_t *r)
+{
+    unsigned i;
+    uint64_t entries = below(4) ? below(1000) : 0xFFFFFFFF - below(2);
+
+    for (i = 0; i < N; i++)
+        r[i] = (uint8_t)any();
+    r[0] = (uint8_t)(below(2) ? VCPU_READY : below(5));
+    r[1] = (uint8_t)below(2);
+    put(r, 2, 4, entries);
+    put(r, 6, 4, entries / (1 + below(5)));
+    r[1068] = (uint8_t)(below(4) ? below(4) : 60 + below(5));
+    for (i = 0; i < 64; i++) {
+        r[1133 + i] = (uint8_t)below(2);
+        if (below(2))
+            r[1069 + i] = (uint8_t)below(40);
+    }
+    if (below(2))
+        set_field(r, 0x4824, 0);
+}
+
+/* Bytes that are mostly a record: 0 lawful, 1 with a byte or two changed, 2 random; the length, at times a wrong one. */
+static size_t bytes(uint8_t *r)
+{
+    unsigned kind = below(10), i;
+
+    random_lawful(r);
+    if (kind == 0)
+        for (i = 0; i < N; i++)
+            r[i] = (uint8_t)any();
+    if (kind == 1 || kind == 2)
+        for (i = 0; i <= below(3); i++)
+            r[below(3) ? below(N) : below(10)] = (uint8_t)any();
+    if (kind == 3 && below(2))
+        return below(2) ? N - 1 : N + 1;
+    return N;
+}
+
+static uint64_t encoding(void)
+{
+    return below(4) ? fields[below(FIELDS)].encoding : below(2) ? below(0x8000) : any();
+}
+
+static const char *const names[] = {"vcpu_queue_event",      "vcpu_inject_interrupt", "vcpu_entry",      "vcpu_apic_value",   "vcpu_read_field",
+                                    "vcpu_write_field",      "vcpu_get_reg_of_index", "vcpu_set_reg_of_index", "vcpu_get_counts", "vcpu_get_cpu_mode",
+                                    "vcpu_get_ptw_info",     "vcpu_gla2gva"};
+
+enum { FUNCTIONS = sizeof names / sizeof names[0] };
+
+/* One call of function f on r and on its copy for the model: the number, with everything compared. */
+static uint32_t one(unsigned f, uint8_t *r, size_t length)
+{
+    uint8_t m[N + 1], before = 0xA5, after = 0x5A, before2 = 0xA5, after2 = 0x5A;
+    uint64_t x = any(), y = any(), v = 0x1122334455667788u, w = v;
+    uint32_t n, k = 2;
+    int ok = lawful(r, length);
+    unsigned i;
+
+    memcpy(m, r, N + 1);
+    switch (f) {
+    case 0: {
+        uint8_t coded = (uint8_t)(below(8) ? below(2) : x >> 8);
+
+        n = vcpu_queue_event(r, length, (uint8_t)x, coded, (uint32_t)y);
+        if (ok && coded <= 1)
+            k = m[0] == VCPU_ENDED ? 1 : model_push(m, (uint8_t)x, coded, (uint32_t)y);
+        break;
+    }
+    case 1:
+        x = below(8) ? x % 257 : x;
+        n = vcpu_inject_interrupt(r, length, x);
+        if (ok)
+            k = m[0] == VCPU_ENDED ? 1 : x == 0 || x > 255 ? 12 : model_push(m, (uint8_t)x, 0, 0);
+        break;
+    case 2:
+        after = before;
+        after2 = before2;
+        n = vcpu_entry(r, length, x, &before, &before2);
+        if (ok)
+            k = model_entry(m, x, &after, &after2);
+        CHECK(before == after && before2 == after2);
+        break;
+    case 3:
+        if (below(2))
+            r[0] = m[0] = VCPU_WAITING, ok = lawful(r, length);
+        n = vcpu_apic_value(r, length, x);
+        if (ok) {
+            k = m[0] == VCPU_WAITING ? 0 : 1;
+            if (!k) {
+                put(m, 10, 8, x & 0xFFFFFFFF);
+                put(m, 26, 8, x >> 32);
+                m[0] = VCPU_READY;
+            }
+        }
+        break;
+    case 4:
+        x = encoding();
+        n = vcpu_read_field(r, length, x, &v);
+        if (ok) {
+            k = place(x) == FIELDS ? 3 : 0;
+            if (!k)
+                w = field(m, x);
+        }
+        CHECK(v == w);
+        break;
+    case 5:
+        x = encoding();
+        y = below(2) ? y & 0xFFFF : below(2) ? y & 0xFFFFFFFF : y;
+        n = vcpu_write_field(r, length, x, y);
+        if (ok) {
+            i = place(x);
+            k = i == FIELDS ? 3 : fields[i].read_only ? 4 : fields[i].width < 8 && y >> 8 * fields[i].width ? 5 : 0;
+            if (!k)
+                set_field(m, x, y);
+        }
+        break;
+    case 6:
+    case 7:
+        x = below(8) ? x % 17 : x;
+        n = f == 6 ? vcpu_get_reg_of_index(r, length, x, &v) : vcpu_set_reg_of_index(r, length, x, y);
+        if (ok) {
+            k = x == 4 || x > 15 ? 23 : 0;
+            if (!k && f == 6)
+                w = get(m, 10 + 8 * (unsigned)x, 8);
+            if (!k && f == 7)
+                put(m, 10 + 8 * (unsigned)x, 8, y);
+        }
+        CHECK(v == w);
+        break;
+    case 8: {
+        uint8_t phase = 9, launched = 9, waiting = 99;
+        uint32_t entries = 999, held = 999;
+
+        n = vcpu_get_counts(r, length, &phase, &launched, &waiting, &entries, &held);
+        if (ok)
+            k = 0;
+        CHECK(ok ? phase == m[0] && launched == m[1] && waiting == m[1068] && entries == get(m, 2, 4) && held == get(m, 6, 4)
+                 : phase == 9 && launched == 9 && waiting == 99 && entries == 999 && held == 999);
+        break;
+    }
+    case 9: {
+        uint32_t mode = 77;
+
+        n = vcpu_get_cpu_mode(r, length, x, &mode);
+        if (ok)
+            k = 0;
+        CHECK(mode == (ok ? model_mode(m, x) : 77));
+        break;
+    }
+    case 10: {
+        uint64_t top = 77;
+        uint8_t level = 77, width = 77;
+        uint32_t flags = 777;
+        unsigned l, d;
+
+        n = vcpu_get_ptw_info(r, length, &top, &level, &width, &flags);
+        if (ok)
+            k = 0;
+        CHECK(ok ? flags == model_flags(m, &l, &d) && level == l && width == d && top == field(m, 0x6802)
+                 : top == 77 && level == 77 && width == 77 && flags == 777);
+        break;
+    }
+    default:
+        if (below(2))
+            y >>= 8;
+        n = vcpu_gla2gva(r, length, x, y, &v);
+        if (ok) {
+            uint64_t base = model_mode(m, x) == VCPU_MODE_64 ? 0 : field(m, 0x6808);
+
+            k = y + base < y ? 17 : 0;
+            if (!k)
+                w = y + base;
+        }
+        CHECK(v == w);
+    }
+    CHECK(n == k);
+    CHECK(memcmp(r, m, N + 1) == 0);
+    return n;
+}
+
+static void many(unsigned long calls)
+{
+    static uint8_t r[N + 1], kept[N + 1];
+    unsigned long made[FUNCTIONS] = {0}, accepted[FUNCTIONS] = {0}, i;
+    unsigned f;
+
+    random_lawful(kept);
+    for (i = 0; i < calls; i++) {
+        f = (unsigned)(i % FUNCTIONS);
+        made[f]++;
+        /* one call in four goes on with the record that the last such call left */
+        if (below(4) == 0) {
+            if (f == 2 && kept[0] == VCPU_RUNNING)
+                kept[0] = VCPU_READY;
+            accepted[f] += one(f, kept, N) == 0;
+            if (below(1000) == 0)
+                random_lawful(kept);
+            continue;
+        }
+        accepted[f] += one(f, r, bytes(r)) == 0;
+    }
+    for (f = 0; f < FUNCTIONS; f++) {
+        printf("%-22s %7lu calls, %5.1f%% accepted\n", names[f], made[f], 100.0 * (double)accepted[f] / (double)made[f]);
+        CHECK(accepted[f] * 5 > made[f]);
+    }
+}
+
+static void edges(void)
+{
+    static uint8_t r[N], a[VCPU_FRAME_LENGTH], b[VCPU_FRAME_LENGTH], m[VCPU_FRAME_LENGTH], zero[VCPU_FRAME_LENGTH];
+    uint8_t resumed, event;
+    unsigned i;
+
+    memset(r, 0xFF, sizeof r);
+    memset(a, 0xFF, sizeof a);
+    CHECK(vcpu_new(r, N, a, sizeof a, b, sizeof b, m, sizeof m - 1) == VCPU_REFUSED_BYTES && r[0] == 0xFF && a[0] == 0xFF);
+    CHECK(vcpu_new(r, N - 1, a, sizeof a, b, sizeof b, m, sizeof m) == VCPU_REFUSED_BYTES && r[0] == 0xFF && a[0] == 0xFF);
+    CHECK(vcpu_new(r, N, a, sizeof a, b, sizeof b, m, sizeof m) == 0);
+    CHECK(!memcmp(r, zero, N) && !memcmp(a, zero, sizeof a) && !memcmp(b, zero, sizeof b) && !memcmp(m, zero, sizeof m));
+    CHECK(vcpu_entry(r, N, 0, &resumed, &event) == VCPU_REFUSED_PHASE);
+    /* the 64th event passes, the 65th does not */
+    for (i = 0; i < 64; i++)
+        CHECK(vcpu_queue_event(r, N, 32, 0, 7) == 0);
+    CHECK(vcpu_queue_event(r, N, 32, 0, 7) == VCPU_REFUSED_FULL);
+    CHECK(vcpu_inject_interrupt(r, N, 256) == VCPU_REFUSED_VECTOR && vcpu_inject_interrupt(r, N, 0) == VCPU_REFUSED_VECTOR);
+    /* with IF clear, vector 32 is held and 31 goes in */
+    r[0] = VCPU_READY;
+    CHECK(vcpu_entry(r, N, 0x1234, &resumed, &event) == 0 && resumed == 0 && event == VCPU_EVENT_HELD && r[1068] == 64);
+    r[0] = VCPU_READY;
+    r[1069] = 31;
+    CHECK(vcpu_entry(r, N, 0x5678, &resumed, &event) == 0 && resumed == 1 && event == VCPU_EVENT_WRITTEN && r[1068] == 63);
+    CHECK(field(r, 0x6C14) == 0x1234 && field(r, 0x4016) == 0x8000071F && get(r, 2, 4) == 2 && get(r, 6, 4) == 1);
+    /* the count of entries at its end */
+    r[0] = VCPU_READY;
+    put(r, 2, 4, 0xFFFFFFFE);
+    CHECK(vcpu_entry(r, N, 0, &resumed, &event) == 0);
+    r[0] = VCPU_READY;
+    CHECK(vcpu_entry(r, N, 0, &resumed, &event) == VCPU_REFUSED_COUNT);
+    /* an ended session takes no event */
+    r[0] = VCPU_ENDED;
+    CHECK(vcpu_queue_event(r, N, 3, 1, 7) == VCPU_REFUSED_PHASE);
+    printf("session: edges as document 01 says\n");
+}
+
+int main(int argc, char **argv)
+{
+    unsigned long calls = argc > 1 ? strtoul(argv[1], 0, 10) : 1000000;
+
+    edges();
+    many(calls);
+    printf("session: %lu calls, every byte and result as the model\n", calls);
+    return 0;
+}

@@ -35,3 +35,12 @@ for n in [4, 5, 0, 5, 0, 0]:
 # P1, P2, a set bit outside allowed-1, P3
 for n in [0x1F, 7, 8, 9]:
     print("control", n)
+# the 64th event passes, the 65th is 13
+for n in [0, 13]:
+    print("event", n)
+# with IF clear, vector 31 goes in (2, written) and 32 is held (1)
+for n in [2, 1]:
+    print("entry", n)
+# the last entry that the count takes, and the count at its end
+for n in [0, 22]:
+    print("count", n)

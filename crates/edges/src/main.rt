@@ -1,6 +1,9 @@
 // Prints document 01's edges as the core answers them: a line for each call, with the refusal or the value.
 use libc::STDOUT_FILENO;
 use regs::RegAnswer;
+use vcpu_events::Event;
+use vcpu_events::Injection;
+use vcpu_session::Session;
 use vmcs::FieldAnswer;
 use vmcs::controls::ControlAnswer;
 use vmcs::controls::Pair;
@@ -87,6 +90,62 @@ fn control(old: u32, set: u32, clear: u32) {
     }
 }
 
+fn event(vector: u8) -> Event {
+    Event {
+        vector: vector,
+        coded: false,
+        code: 0,
+    }
+}
+
+// A new session with this many events, made ready for an entry.
+fn queued(count: u8, vector: u8, entries: u32) -> Session {
+    let mut s = vcpu_session::new();
+    let mut i: u8 = 0;
+    while i < count {
+        let t = vcpu_events::queue_event(s, event(vector));
+        s = t.session;
+        i += 1;
+    }
+    let mut progress = s.progress;
+    progress.phase = 1;
+    progress.entries = entries;
+    s.progress = progress;
+    s
+}
+
+fn queue(waiting: u8) {
+    let t = vcpu_events::queue_event(queued(waiting, 32, 0), event(32));
+    io::write_all(STDOUT_FILENO, b"event ");
+    line(t.refusal as u64);
+}
+
+fn enter(vector: u8) {
+    let e = vcpu_events::enter(queued(1, vector, 0), 0);
+    let injection = e.injection;
+    io::write_all(STDOUT_FILENO, b"entry ");
+    match injection {
+        Injection::Empty => line(0),
+        Injection::Held => line(1),
+        Injection::Written => line(2),
+    }
+}
+
+fn count(entries: u32) {
+    let e = vcpu_events::enter(queued(0, 0, entries), 0);
+    io::write_all(STDOUT_FILENO, b"count ");
+    line(e.refusal as u64);
+}
+
+fn events() {
+    queue(63);
+    queue(64);
+    enter(31);
+    enter(32);
+    count(0xFFFF_FFFE);
+    count(0xFFFF_FFFF);
+}
+
 fn ports_and_msrs() {
     ports(65535, 1);
     ports(65535, 2);
@@ -130,4 +189,5 @@ fn main() {
     control(0x16, 1, 1);
     control(0x16, 0x80, 0);
     control(0x16, 0, 2);
+    events();
 }

@@ -50,7 +50,7 @@ static void both_memsets(uint32_t i)
 {
     memset(a, (int)(i & 1 ? 255 : 0), sizeof a);
     memset(b, (int)(i & 1 ? 255 : 0), sizeof b);
-    __asm__ volatile("" ::: "memory");
+    __asm__ volatile("" ::"r"(a), "r"(b) : "memory");
 }
 
 static void one_msr(uint32_t i)

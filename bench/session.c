@@ -33,7 +33,7 @@ static void copies(uint32_t i)
 {
     memcpy(copy, r, N);
     copy[0] = (uint8_t)i;
-    __asm__ volatile("" ::: "memory");
+    __asm__ volatile("" ::"r"(copy) : "memory");
 }
 
 /* Events come and go, so that the queue neither fills nor empties. */

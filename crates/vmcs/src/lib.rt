@@ -39,9 +39,10 @@ pub struct Written {
 fn position(encoding: u64) -> usize
     ensures { λ r. ⌜ r ≡ positionOf encodings encoding ⌝ }
 {
+    let table = ENCODINGS;
     let mut i: usize = 0;
     while i < 154 {
-        if ENCODINGS[i] == encoding {
+        if table[i] == encoding {
             return i;
         }
         i += 1;

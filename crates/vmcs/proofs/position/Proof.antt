@@ -10,10 +10,10 @@ use Rattle.vmcs.proofs.position.Statement.{statement}
 use Rattle.vmcs.proofs.position.Tie as tie
 
 abbrev Inv-loop : tie.InvT-loop
-Inv-loop encoding i₀ i = (i ≤ 154) × Passed encodings encoding i
+Inv-loop encoding table i₀ i = (i ≤ 154) × Passed encodings encoding i
 
 abbrev μ-loop : tie.MeasureT-loop
-μ-loop encoding i₀ i = 154 - i
+μ-loop encoding table i₀ i = 154 - i
 
 loop-holds : tie.Need-loop-holds Inv-loop μ-loop
 loop-holds c = (search needs, passed-none encodings _)

@@ -1,0 +1,33 @@
+-- `record::words::put_all4` meets its contract. Assumes nothing.
+use Prim.Native.Nat.{_-_}
+use native.Mathlib.Omega.{arith}
+use lib.ListN.{length}
+use borrow.Author.Needs.{needs}
+use Rattle.bits.specs.LittleEndian.{bytesOf}
+use Rattle.bits.proofs.LittleEndianLaws.{length-bytesOf}
+use Rattle.record.proofs.Loops.{Any, Stored, stored-none, stored-more, stored-all}
+use Rattle.record.proofs.words.put_all4.Statement.{statement}
+use Rattle.record.proofs.words.put_all4.Tie as tie
+
+abbrev Inv-loop : tie.InvT-loop
+Inv-loop b₀ at vs i₀ to₀ b i to = Stored 4 (bytesOf 4) Any b₀ at vs b i to
+
+abbrev μ-loop : tie.MeasureT-loop
+μ-loop b₀ at vs i₀ to₀ b i to = length vs - i
+
+pub put-all4-spec : {M : Type 1} → statement M
+put-all4-spec =
+    tie.close
+    (tie.spec
+    Inv-loop
+    μ-loop
+    (λ c. stored-none)
+    (λ c. search needs)
+    (λ c. omega arith)
+    (λ c κs. omega arith)
+    (λ c. omega arith)
+    (λ c. omega arith)
+    (λ c. omega arith)
+    (λ c. stored-more (c .before .before .before .before .before .before .loop .inv) 0 (length-bytesOf 4) (omega arith) (c .before .before .put4 .ensures) tt)
+    (λ c. omega arith)
+    (λ c. stored-all (c .before .loop .inv) (omega arith)))

@@ -1,0 +1,38 @@
+// What the replay programs share: the cases of a list read from its text, and the answers printed. The format is in oracle/README.md.
+mod digest;
+mod text;
+
+pub use digest::digest_of;
+pub use text::Case;
+pub use text::case_at;
+ghost use mathlib.Core.Path.{_≡_};
+ghost use Rattle.replay.specs.Text.{lineEnd};
+use libc::STDOUT_FILENO;
+
+// Copies the comment, a list's first line, and answers the place after it.
+pub fn print_comment(text: &[u8]) -> usize
+    ensures { λ r. ⌜ r ≡ lineEnd (now (text .entry)) ⌝ }
+{
+    let end = text::line_end(text);
+    io::write_all(STDOUT_FILENO, &text[..end]);
+    end
+}
+
+// Prints numbers parted by blanks, and ends the line.
+pub fn print_numbers(numbers: &[u64]) {
+    let mut i = 0;
+    while i < numbers.len() {
+        if 0 < i {
+            io::write_all(STDOUT_FILENO, b" ");
+        }
+        io::print_hex(STDOUT_FILENO, numbers[i], 1);
+        i += 1;
+    }
+    io::write_all(STDOUT_FILENO, b"\n");
+}
+
+pub fn print_refused(refusal: u32) {
+    io::write_all(STDOUT_FILENO, b"refused ");
+    io::print_decimal(STDOUT_FILENO, refusal as u64);
+    io::write_all(STDOUT_FILENO, b"\n");
+}

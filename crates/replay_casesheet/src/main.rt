@@ -1,0 +1,4 @@
+// Replays the oracle's list casesheet.
+fn main() {
+    sheet_io::run();
+}

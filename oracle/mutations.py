@@ -129,4 +129,16 @@ MUTATIONS = [
         ("VmCpuMode::Compatibility => csbase,", "VmCpuMode::Compatibility => 0,"),
         ("- base < address", "- base <= address"),
     ),
+    *in_file(
+        "structs/src/lib.rt",
+        ("const FIRST_PORT_OF_B: usize = 0x8000;", "const FIRST_PORT_OF_B: usize = 0x4000;"),
+        ("frame[i] = with_bit((n % 8) as u8, v, frame[i]);", "frame[i] = with_bit((7 - n % 8) as u8, v, frame[i]);"),
+        ("let last = to / 8;", "let last = (to + 7) / 8;"),
+        ("let to_a = smaller(to, FIRST_PORT_OF_B);", "let to_a = smaller(to, 0x2000);"),
+        ("if PORTS < from + ports {", "if PORTS <= from + ports {"),
+        ("Access::Read => { if msr < LOW_MSRS { 0 } else { 1 } }", "Access::Read => { if msr < LOW_MSRS { 0 } else { 2 } }"),
+        ("Access::Write => { if msr < LOW_MSRS { 2 } else { 3 } }", "Access::Write => { if msr < LOW_MSRS { 3 } else { 2 } }"),
+        ("const MEM_TYPE_WB: u64 = 6;", "const MEM_TYPE_WB: u64 = 0;"),
+        ("const ENABLE_ACCESSED_DIRTY: u64 = 1 << 6;", "const ENABLE_ACCESSED_DIRTY: u64 = 1 << 5;"),
+    ),
 ]

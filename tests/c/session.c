@@ -373,6 +373,20 @@ static void many(unsigned long calls)
     }
 }
 
+/* The offsets that the header publishes are those of the model, which every call above is compared with. */
+static void offsets(void)
+{
+    CHECK(VCPU_OFFSET_PHASE == 0 && VCPU_OFFSET_LAUNCHED == 1 && VCPU_OFFSET_ENTRIES == 2 && VCPU_OFFSET_HELD == 6);
+    CHECK(VCPU_OFFSET_REGS == 10 && VCPU_OFFSET_W16 == fields[0].offset && VCPU_OFFSET_W32 == fields[17].offset);
+    CHECK(VCPU_OFFSET_W64 == fields[67].offset && VCPU_OFFSET_NATURAL == fields[108].offset);
+    CHECK(VCPU_OFFSET_WAITING == 1068 && VCPU_OFFSET_VECTORS == 1069 && VCPU_OFFSET_CODED == 1133 && VCPU_OFFSET_CODES == 1197);
+    CHECK(VCPU_OFFSET_PAIRS == 1197 + 256 && VCPU_OFFSET_CR0 == VCPU_OFFSET_PAIRS + 40 && VCPU_OFFSET_CR4 == VCPU_OFFSET_CR0 + 16);
+    CHECK(VCPU_RECORD_LENGTH == VCPU_OFFSET_CR4 + 16);
+    CHECK(VCPU_REFUSED_PHASE == 1 && VCPU_REFUSED_BYTES == 2 && VCPU_REFUSED_ENCODING == 3 && VCPU_REFUSED_READ_ONLY == 4);
+    CHECK(VCPU_REFUSED_WIDTH == 5 && VCPU_REFUSED_VECTOR == 12 && VCPU_REFUSED_FULL == 13 && VCPU_REFUSED_SUM == 17);
+    CHECK(VCPU_REFUSED_COUNT == 22 && VCPU_REFUSED_INDEX == 23);
+}
+
 static void edges(void)
 {
     static uint8_t r[N], a[VCPU_FRAME_LENGTH], b[VCPU_FRAME_LENGTH], m[VCPU_FRAME_LENGTH], zero[VCPU_FRAME_LENGTH];
@@ -414,6 +428,7 @@ int main(int argc, char **argv)
 {
     unsigned long calls = argc > 1 ? strtoul(argv[1], 0, 10) : 1000000;
 
+    offsets();
     edges();
     many(calls);
     printf("session: %lu calls, every byte and result as the model\n", calls);

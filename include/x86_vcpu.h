@@ -33,7 +33,7 @@ extern "C" {
 #define VCPU_REFUSED_ENCODING 3
 #define VCPU_REFUSED_READ_ONLY 4
 #define VCPU_REFUSED_WIDTH 5
-/* Control word: allowed-0 has a bit that allowed-1 lacks. */
+/* Control word: allowed-0 has a bit that allowed-1 lacks. Setup: so has any of the five pairs, or fixed-0 of CR0 or CR4 beside fixed-1. */
 #define VCPU_REFUSED_PAIR 6
 /* Control word: a bit is to be both set and cleared. */
 #define VCPU_REFUSED_SET_AND_CLEAR 7
@@ -111,6 +111,61 @@ extern "C" {
  */
 uint32_t vcpu_new(uint8_t *record, size_t length, uint8_t *a, size_t a_length, uint8_t *b, size_t b_length, uint8_t *msr,
                   size_t msr_length);
+
+/* ---- Setup ----
+ * Its arguments are one block of bytes. Nothing lies between the parts, and numbers stand least significant byte first.
+ */
+
+/* The length in bytes of the block. */
+#define VCPU_SETUP_LENGTH 257
+
+/* The host's state, which an exit restores: PAT, EFER, CR0, CR3, CR4 (8 bytes each). */
+#define VCPU_SETUP_HOST_PAT 0
+#define VCPU_SETUP_HOST_EFER 8
+#define VCPU_SETUP_HOST_CR0 16
+#define VCPU_SETUP_HOST_CR3 24
+#define VCPU_SETUP_HOST_CR4 32
+/* Selectors (2 bytes each). */
+#define VCPU_SETUP_HOST_ES 40
+#define VCPU_SETUP_HOST_CS 42
+#define VCPU_SETUP_HOST_SS 44
+#define VCPU_SETUP_HOST_DS 46
+#define VCPU_SETUP_HOST_FS 48
+#define VCPU_SETUP_HOST_GS 50
+/* FS and GS base (8 each), TR (2) and its base, GDTR and IDTR base, and the address that an exit goes to (8 each). */
+#define VCPU_SETUP_HOST_FS_BASE 52
+#define VCPU_SETUP_HOST_GS_BASE 60
+#define VCPU_SETUP_HOST_TR 68
+#define VCPU_SETUP_HOST_TR_BASE 70
+#define VCPU_SETUP_HOST_GDTR_BASE 78
+#define VCPU_SETUP_HOST_IDTR_BASE 86
+#define VCPU_SETUP_HOST_RIP 94
+/* The guest's first RIP, and its IA32_PAT (8 each). */
+#define VCPU_SETUP_ENTRY 102
+#define VCPU_SETUP_GUEST_PAT 110
+/* Physical addresses (8 each): the root of the extended page tables, and the frames I/O bitmap A, I/O bitmap B, MSR bitmaps. */
+#define VCPU_SETUP_EPT_ROOT 118
+#define VCPU_SETUP_IO_BITMAP_A 126
+#define VCPU_SETUP_IO_BITMAP_B 134
+#define VCPU_SETUP_MSR_BITMAPS 142
+/*
+ * The capability MSRs (SDM 3D, appendix A) as RDMSR gives them, 13 words of 8 bytes by number: 0x481 to 0x484 (pin, primary, exit, entry),
+ * 0x486 to 0x489 (CR0 fixed-0 and fixed-1, CR4 fixed-0 and fixed-1), 0x48B (secondary), 0x48D to 0x490 (TRUE pin, primary, exit, entry).
+ */
+#define VCPU_SETUP_MSRS 150
+/* Yes/no bytes: whether CPUID offers the guest RDTSCP, INVPCID and XSAVES. */
+#define VCPU_SETUP_RDTSCP 254
+#define VCPU_SETUP_INVPCID 255
+#define VCPU_SETUP_XSAVES 256
+
+/*
+ * Sets a fresh session up: the fields of host, guest and controls are written, the pairs of the TRUE words and the fixed bits are kept, and the
+ * session is ready. To what the frames hold it adds the intercepts of port 0x604 and of reads and writes of MSRs 0xE1 and 0x800 to 0x83F.
+ * Refusals: VCPU_REFUSED_BYTES (record, block, a frame's length), VCPU_REFUSED_PHASE (not fresh), VCPU_REFUSED_PAIR (any of the five pairs, CR0 or
+ * CR4: a bit must be 1 and may not be); then by word, pin, primary, secondary, exit, entry: VCPU_REFUSED_SET, VCPU_REFUSED_CLEAR.
+ */
+uint32_t vcpu_setup(uint8_t *record, size_t length, const uint8_t *block, size_t block_length, uint8_t *a, size_t a_length, uint8_t *b,
+                    size_t b_length, uint8_t *msr, size_t msr_length);
 
 /*
  * Queues an event last: its vector and, where coded is 1, its error code (code does not matter where coded is 0).

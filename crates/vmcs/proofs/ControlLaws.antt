@@ -157,7 +157,7 @@ clear-permitted w allowed0 allowed1 word k h0 hk p h =
 -- ---- the check of words against pairs is the property
 
 -- five tests joined, one by one
-five : (f : ℕ → Bool) → T (f 0 && f 1 && f 2 && f 3 && f 4) → (k : ℕ) → k < 5 → T (f k)
+pub five : (f : ℕ → Bool) → T (f 0 && f 1 && f 2 && f 3 && f 4) → (k : ℕ) → k < 5 → T (f k)
 five f t zero h = W.and-l (f 0) _ (W.and-l (f 0 && f 1) _ (W.and-l (f 0 && f 1 && f 2) _ (W.and-l (f 0 && f 1 && f 2 && f 3) _ t)))
 five f t (suc zero) h = W.and-r (f 0) _ (W.and-l (f 0 && f 1) _ (W.and-l (f 0 && f 1 && f 2) _ (W.and-l (f 0 && f 1 && f 2 && f 3) _ t)))
 five f t (suc (suc zero)) h = W.and-r (f 0 && f 1) _ (W.and-l (f 0 && f 1 && f 2) _ (W.and-l (f 0 && f 1 && f 2 && f 3) _ t))

@@ -18,6 +18,9 @@ use Rattle.vcpu_events.specs.declared.Injection.{Injection}
 use Rattle.vcpu_events.specs.declared.Injection.the-variants.{Empty, Held, Written}
 use Rattle.vcpu_events.specs.declared.Event.{Event}
 use Rattle.vcpu_access.specs.Access.{writeField, setRegister, apicValue}
+use Rattle.vcpu_setup.specs.Capability.{capabilitiesOf}
+use Rattle.vcpu_setup.specs.Setup.{setupRefusal, readied, setupOf}
+use Rattle.vcpu_setup.specs.declared.Arguments.{Arguments}
 use Rattle.x86_vcpu.specs.Records.{queueStep}
 
 -- a test that refuses, before the rest
@@ -59,6 +62,14 @@ unfolding apicValue
 keeps-apic value s l =
     test (isUnlawful s) 2 _ l (λ _.
     test (not (eqb (s .progress .phase) Phase.WAITING)) 1 _ l (λ _. record { phase = omega arith; waiting = l .waiting; held = l .held }))
+
+pub keeps-setup : (a : Arguments) (s : Session) → Lawful s → Lawful (setupOf s a .session)
+unfolding setupOf readied
+keeps-setup a s l = go (eqb (setupRefusal s (capabilitiesOf (a .msrs)) (a .features)) 0)
+  where
+    go : (t : Bool) → Lawful (cond t (answered 0 (readied s a (capabilitiesOf (a .msrs)))) (answered (setupRefusal s (capabilitiesOf (a .msrs)) (a .features)) s) .session)
+    go true = record { phase = omega arith; waiting = l .waiting; held = l .held }
+    go false = l
 
 -- a test that refuses an entry, before the rest
 entry-test : {s : Session} (b : Bool) (n : ℕ) (r : Entered) → Lawful s → (b ≡ false → Lawful (r .session)) → Lawful (cond b (refusedEntry n s) r .session)

@@ -2,3 +2,4 @@
 pub mod Calls
 pub mod Records
 pub mod Reads
+pub mod SetupCall

@@ -61,27 +61,29 @@ pub record EntryCalled (stack : ℕ) (b : List ℕ) (resumed injection r : ℕ) 
   pub answer : refusedCall r after resumedAfter injectionAfter ≡ entryCall stack b resumed injection
   pub decodes : r ≡ 0 → decodeOf after ≡ decoded 0 (entry (decodeOf b .session) stack .session)
 
--- ---- a new session
+-- ---- a call that takes the record and the frames: the number, and each of them as it leaves it
 
-pub record NewCall : Type 0 where
+pub record FramesCall : Type 0 where
   pub refusal : ℕ
   pub bytes : List ℕ
   pub a : List ℕ
   pub b : List ℕ
   pub msr : List ℕ
 
-abbrev pub newRefused : List ℕ → List ℕ → List ℕ → List ℕ → NewCall
-newRefused bytes a b msr = record { refusal = 2; bytes = bytes; a = a; b = b; msr = msr }
+abbrev pub framesCall : ℕ → List ℕ → List ℕ → List ℕ → List ℕ → FramesCall
+framesCall n bytes a b msr = record { refusal = n; bytes = bytes; a = a; b = b; msr = msr }
+
+-- ---- a new session
 
 -- a frame without an intercept
 abbrev pub noIntercepts : List ℕ
 noIntercepts = replicate 4096 0
 
 -- 2: a buffer has another length. What the buffers hold does not matter
-unfoldable pub newCall : List ℕ → List ℕ → List ℕ → List ℕ → NewCall
+unfoldable pub newCall : List ℕ → List ℕ → List ℕ → List ℕ → FramesCall
 newCall bytes a b msr =
-    cond (not (eqb (length bytes) Record.LENGTH)) (newRefused bytes a b msr)
-    (cond (not (eqb (length a) 4096)) (newRefused bytes a b msr)
-    (cond (not (eqb (length b) 4096)) (newRefused bytes a b msr)
-    (cond (not (eqb (length msr) 4096)) (newRefused bytes a b msr)
-    (record { refusal = 0; bytes = encodeOf newSession; a = noIntercepts; b = noIntercepts; msr = noIntercepts }))))
+    cond (not (eqb (length bytes) Record.LENGTH)) (framesCall 2 bytes a b msr)
+    (cond (not (eqb (length a) 4096)) (framesCall 2 bytes a b msr)
+    (cond (not (eqb (length b) 4096)) (framesCall 2 bytes a b msr)
+    (cond (not (eqb (length msr) 4096)) (framesCall 2 bytes a b msr)
+    (framesCall 0 (encodeOf newSession) noIntercepts noIntercepts noIntercepts))))

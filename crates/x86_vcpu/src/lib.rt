@@ -5,6 +5,7 @@ ghost use Rattle.x86_vcpu.specs.Calls.{controlCall, portCall, msrCall, r
 
 pub mod readings;
 pub mod session;
+pub mod setup;
 
 use vmcs::controls::ControlAnswer;
 use vmcs::controls::Pair;

@@ -1,0 +1,2 @@
+-- What an accepted setup leaves.
+pub mod Laws

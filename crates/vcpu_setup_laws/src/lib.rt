@@ -1,0 +1,1 @@
+// No code: what an accepted setup leaves is a theorem about the definitions (specs/Laws.antt, proofs/SetupLaws.antt).

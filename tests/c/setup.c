@@ -1,0 +1,280 @@
+/*
+ * Setup, from C: 100,000 calls (or as many as the first argument says) on capability words of many kinds, on records in every phase and on wrong
+ * blocks, each against a model written from document 01 and the manual. Every byte of the record and of the frames is compared; the calls
+ * that got each number are counted and printed.
+ */
+#include "x86_vcpu.h"
+
+#define TEST "setup"
+#include "model.h"
+
+enum { BLOCK = VCPU_SETUP_LENGTH, FRAME = VCPU_FRAME_LENGTH };
+
+/* Offsets of the block that are used twice. */
+enum { MSRS = VCPU_SETUP_MSRS, FLAGS = VCPU_SETUP_RDTSCP };
+
+/* The places of the MSRs in the block. */
+enum { PIN, PRIMARY, EXIT, ENTRY, CR0_0, CR0_1, CR4_0, CR4_1, SECONDARY, TRUE_PIN, TRUE_PRIMARY, TRUE_EXIT, TRUE_ENTRY, MSR_COUNT };
+
+static uint64_t msr(const uint8_t *block, unsigned which)
+{
+    return get(block, MSRS + 8 * which, 8);
+}
+
+/* ---- the model ---- */
+
+/* The five words in order: the MSR of the pair, that of the old word, and the field. */
+static const struct {
+    unsigned pair, old;
+    uint64_t field;
+} words[5] = {
+    {TRUE_PIN, PIN, 0x4000}, {TRUE_PRIMARY, PRIMARY, 0x4002}, {SECONDARY, SECONDARY, 0x401E}, {TRUE_EXIT, EXIT, 0x400C}, {TRUE_ENTRY, ENTRY, 0x4012},
+};
+
+static uint32_t set_of(const uint8_t *block, unsigned k)
+{
+    static const uint32_t set[5] = {0x9, 0x92000000, 0x82, 0x3C8200, 0xC000};
+
+    if (k != 2)
+        return set[k];
+    return set[2] | (uint32_t)block[FLAGS] << 3 | (uint32_t)block[FLAGS + 1] << 12 | (uint32_t)block[FLAGS + 2] << 20;
+}
+
+static uint32_t clear_of(unsigned k)
+{
+    return k == 1 ? 0x198000 : 0;
+}
+
+static uint32_t model_number(const uint8_t *r, const uint8_t *block)
+{
+    unsigned k;
+
+    if (r[0] != VCPU_FRESH)
+        return 1;
+    for (k = 0; k < 5; k++)
+        if ((uint32_t)msr(block, words[k].pair) & ~(uint32_t)(msr(block, words[k].pair) >> 32))
+            return 6;
+    if (msr(block, CR0_0) & ~msr(block, CR0_1) || msr(block, CR4_0) & ~msr(block, CR4_1))
+        return 6;
+    for (k = 0; k < 5; k++) {
+        uint64_t m = msr(block, words[k].pair);
+
+        if (set_of(block, k) & ~(uint32_t)(m >> 32))
+            return 8;
+        if (clear_of(k) & (uint32_t)m)
+            return 9;
+    }
+    return 0;
+}
+
+static void model_words(uint8_t *r, const uint8_t *block)
+{
+    unsigned k;
+
+    for (k = 0; k < 5; k++) {
+        uint32_t m0 = (uint32_t)msr(block, words[k].pair), m1 = (uint32_t)(msr(block, words[k].pair) >> 32);
+        uint32_t old = (uint32_t)msr(block, words[k].old), set = set_of(block, k), clear = clear_of(k);
+
+        set_field(r, words[k].field, m0 | set | (old & ~m0 & m1 & ~set & ~clear));
+        put(r, VCPU_OFFSET_PAIRS + 8 * k, 4, m0);
+        put(r, VCPU_OFFSET_PAIRS + 8 * k + 4, 4, m1);
+    }
+}
+
+static void model_crs(uint8_t *r, const uint8_t *block)
+{
+    uint64_t must0 = msr(block, CR0_1) & ~(uint64_t)0x60000000, must1 = msr(block, CR0_0) & ~(uint64_t)0x80000001;
+    uint64_t first = 0x60000010, vmxe = 0x2000;
+
+    set_field(r, 0x6800, (first & must0) | must1);
+    set_field(r, 0x6004, first);
+    set_field(r, 0x6000, must1 | ~must0);
+    set_field(r, 0x6804, (vmxe & msr(block, CR4_1)) | msr(block, CR4_0));
+    set_field(r, 0x6006, vmxe);
+    set_field(r, 0x6002, msr(block, CR4_0) | ~msr(block, CR4_1));
+    put(r, VCPU_OFFSET_CR0, 8, msr(block, CR0_0));
+    put(r, VCPU_OFFSET_CR0 + 8, 8, msr(block, CR0_1));
+    put(r, VCPU_OFFSET_CR4, 8, msr(block, CR4_0));
+    put(r, VCPU_OFFSET_CR4 + 8, 8, msr(block, CR4_1));
+}
+
+/* Fields that take a number of the block: encoding, offset, width. */
+static const struct {
+    uint64_t field;
+    unsigned at, size;
+} given[] = {
+    {0x2C00, VCPU_SETUP_HOST_PAT, 8},       {0x2C02, VCPU_SETUP_HOST_EFER, 8},     {0x6C00, VCPU_SETUP_HOST_CR0, 8},
+    {0x6C02, VCPU_SETUP_HOST_CR3, 8},       {0x6C04, VCPU_SETUP_HOST_CR4, 8},      {0x0C00, VCPU_SETUP_HOST_ES, 2},
+    {0x0C02, VCPU_SETUP_HOST_CS, 2},        {0x0C04, VCPU_SETUP_HOST_SS, 2},       {0x0C06, VCPU_SETUP_HOST_DS, 2},
+    {0x0C08, VCPU_SETUP_HOST_FS, 2},        {0x0C0A, VCPU_SETUP_HOST_GS, 2},       {0x6C06, VCPU_SETUP_HOST_FS_BASE, 8},
+    {0x6C08, VCPU_SETUP_HOST_GS_BASE, 8},   {0x0C0C, VCPU_SETUP_HOST_TR, 2},       {0x6C0A, VCPU_SETUP_HOST_TR_BASE, 8},
+    {0x6C0C, VCPU_SETUP_HOST_GDTR_BASE, 8}, {0x6C0E, VCPU_SETUP_HOST_IDTR_BASE, 8}, {0x6C16, VCPU_SETUP_HOST_RIP, 8},
+    {0x681E, VCPU_SETUP_ENTRY, 8},          {0x2804, VCPU_SETUP_GUEST_PAT, 8},     {0x2000, VCPU_SETUP_IO_BITMAP_A, 8},
+    {0x2002, VCPU_SETUP_IO_BITMAP_B, 8},    {0x2004, VCPU_SETUP_MSR_BITMAPS, 8},
+};
+
+/* Fields that take the same number always; the eight segments follow by their place. */
+static const struct {
+    uint64_t field, value;
+} fixed[] = {
+    {0x6C10, 0}, {0x6C12, 0}, {0x4C00, 0},                                             /* host SYSENTER */
+    {0x6816, 0}, {0x4810, 0xFFFF}, {0x6818, 0}, {0x4812, 0xFFFF},                      /* GDTR, IDTR */
+    {0x6802, 0}, {0x681A, 0x400}, {0x681C, 0}, {0x6820, 2}, {0x6822, 0},               /* CR3, DR7, RSP, RFLAGS, pending debug */
+    {0x6824, 0}, {0x6826, 0}, {0x482A, 0},                                             /* SYSENTER */
+    {0x4824, 0}, {0x4826, 0}, {0x482E, 1000000},                                       /* interruptibility, activity, preemption timer */
+    {0x2800, 0xFFFFFFFFFFFFFFFFu}, {0x2802, 0}, {0x2806, 0},                           /* link pointer, DEBUGCTL, EFER */
+    {0x400E, 0}, {0x4010, 0}, {0x4014, 0}, {0x400A, 0}, {0x4004, 0x40},                /* counts, exception bitmap */
+};
+
+static void model_fields(uint8_t *r, const uint8_t *block)
+{
+    /* ES CS SS DS FS GS LDTR TR, in the order of their encodings */
+    static const uint32_t rights[8] = {0x93, 0x9B, 0x93, 0x93, 0x93, 0x93, 0x82, 0x8B};
+    unsigned i;
+
+    for (i = 0; i < sizeof given / sizeof given[0]; i++)
+        set_field(r, given[i].field, get(block, given[i].at, given[i].size));
+    for (i = 0; i < sizeof fixed / sizeof fixed[0]; i++)
+        set_field(r, fixed[i].field, fixed[i].value);
+    for (i = 0; i < 8; i++) {
+        set_field(r, 0x0800 + 2 * i, 0);
+        set_field(r, 0x6806 + 2 * i, 0);
+        set_field(r, 0x4800 + 2 * i, 0xFFFF);
+        set_field(r, 0x4814 + 2 * i, rights[i]);
+    }
+    set_field(r, 0x201A, (get(block, VCPU_SETUP_EPT_ROOT, 8) & ~(uint64_t)0xFFF) | 0x5E);
+}
+
+static void model_frames(uint8_t *a, uint8_t *m)
+{
+    a[0x604 / 8] |= 1 << (0x604 % 8);
+    m[0xE1 / 8] |= 1 << (0xE1 % 8);
+    m[2048 + 0xE1 / 8] |= 1 << (0xE1 % 8);
+    memset(m + 0x800 / 8, 0xFF, 8);
+    memset(m + 2048 + 0x800 / 8, 0xFF, 8);
+}
+
+/* ---- inputs ---- */
+
+/* Words such as processors with all that setup sets have them. */
+static const uint64_t real[MSR_COUNT] = {
+    0x7F00000016, 0xFFF9FFFE0401E172u, 0x1FFFFFF00036DFF, 0x3FFFF000011FF, 0x80000021, 0xFFFFFFFF, 0x2000, 0x3767FF,
+    0x55CFEFFF00000000, 0x7F00000016, 0xFFF9FFFE04006172u, 0x1FFFFFF00036DFB, 0x3FFFF000011FB,
+};
+
+/* Words of the kinds that decide: the common ones, open ones, few bits changed, any. */
+static void any_msrs(uint8_t *block)
+{
+    unsigned kind = below(8), k;
+
+    for (k = 0; k < MSR_COUNT; k++) {
+        uint64_t x = real[k];
+
+        if (kind >= 4 && k != CR0_0 && k != CR4_0)
+            x = k >= CR0_0 && k <= CR4_1 ? ~(uint64_t)0 : 0xFFFFFFFF00000000u | (any() & any() & ~(uint64_t)0x198000 & 0xFFFFFFFF);
+        if (kind == 3 || kind == 6)
+            x ^= below(6) ? 0 : (uint64_t)1 << below(64);
+        if (kind == 7 && below(2))
+            x = any();
+        put(block, MSRS + 8 * k, 8, x);
+    }
+}
+
+static void any_block(uint8_t *block)
+{
+    unsigned i;
+
+    for (i = 0; i < BLOCK; i++)
+        block[i] = (uint8_t)(any() >> 24);
+    for (i = FLAGS; i < BLOCK; i++)
+        block[i] = (uint8_t)(below(64) ? below(2) : 2 + below(254));
+    any_msrs(block);
+}
+
+static void any_record(uint8_t *r)
+{
+    unsigned i;
+
+    for (i = 0; i < N; i++)
+        r[i] = (uint8_t)(any() >> 24);
+    r[0] = (uint8_t)(below(8) ? VCPU_FRESH : below(6));
+    r[1] = (uint8_t)(below(32) ? below(2) : 2);
+    put(r, VCPU_OFFSET_HELD, 4, below(32) ? get(r, VCPU_OFFSET_ENTRIES, 4) / 2 : any() & 0xFFFFFFFF);
+    r[VCPU_OFFSET_WAITING] = (uint8_t)below(66);
+    for (i = 0; i < 64; i++)
+        r[VCPU_OFFSET_CODED + i] = (uint8_t)below(2);
+}
+
+/* ---- the calls ---- */
+
+static uint8_t r[N], s[N], block[BLOCK + 1], frames[3][FRAME], copies[3][FRAME];
+static unsigned long counts[10];
+
+static int flags_valid(void)
+{
+    return block[FLAGS] <= 1 && block[FLAGS + 1] <= 1 && block[FLAGS + 2] <= 1;
+}
+
+static void once(void)
+{
+    size_t length = below(64) ? N : N - 1, blocks = below(64) ? BLOCK : BLOCK - 1 + 2 * below(2), a = below(64) ? FRAME : FRAME - 1;
+    uint32_t number, model;
+    unsigned i;
+
+    any_record(r);
+    any_block(block);
+    for (i = 0; i < FRAME; i++) {
+        uint64_t x = any();
+
+        frames[0][i] = (uint8_t)(x >> 8);
+        frames[1][i] = (uint8_t)(x >> 16);
+        frames[2][i] = (uint8_t)(x >> 24);
+    }
+    memcpy(s, r, N);
+    memcpy(copies, frames, sizeof frames);
+    model = !lawful(s, length) || blocks != BLOCK || !flags_valid() || a != FRAME ? 2 : model_number(s, block);
+    if (model == 0) {
+        s[0] = VCPU_READY;
+        model_words(s, block);
+        model_crs(s, block);
+        model_fields(s, block);
+        model_frames(copies[0], copies[2]);
+    }
+    number = vcpu_setup(r, length, block, blocks, frames[0], a, frames[1], FRAME, frames[2], FRAME);
+    CHECK(number == model);
+    CHECK(memcmp(r, s, N) == 0);
+    CHECK(memcmp(frames, copies, sizeof frames) == 0);
+    counts[number]++;
+}
+
+/* Document 01's P4 and P5, through the call: CR0 and its mask, and the EPT pointer, of such words on a new session. */
+static void worked(void)
+{
+    unsigned i;
+
+    CHECK(vcpu_new(r, N, frames[0], FRAME, frames[1], FRAME, frames[2], FRAME) == 0);
+    memset(block, 0, BLOCK);
+    for (i = 0; i < MSR_COUNT; i++)
+        put(block, MSRS + 8 * i, 8, real[i]);
+    put(block, VCPU_SETUP_EPT_ROOT, 8, 0x1FFF);
+    CHECK(vcpu_setup(r, N, block, BLOCK, frames[0], FRAME, frames[1], FRAME, frames[2], FRAME) == 0);
+    CHECK(field(r, 0x6800) == 0x30);
+    CHECK(field(r, 0x6000) == 0xFFFFFFFF60000020u);
+    CHECK(field(r, 0x201A) == 0x105E);
+    CHECK(vcpu_setup(r, N, block, BLOCK, frames[0], FRAME, frames[1], FRAME, frames[2], FRAME) == VCPU_REFUSED_PHASE);
+}
+
+int main(int argc, char **argv)
+{
+    unsigned long calls = argc > 1 ? strtoul(argv[1], 0, 10) : 100000, i;
+
+    worked();
+    for (i = 0; i < calls; i++)
+        once();
+    for (i = 0; i < 10; i++)
+        if (counts[i])
+            printf("setup: number %lu, %lu calls\n", i, counts[i]);
+    CHECK(calls < 1000 || (counts[0] && counts[1] && counts[2] && counts[6] && counts[8] && counts[9]));
+    printf("setup: %lu calls, every byte as the model\n", calls);
+    return 0;
+}

@@ -5,9 +5,11 @@ ghost use mathlib.Core.Path.{_≡_};
 ghost use Rattle.vcpu_bitmaps.specs.Bitmaps.{ioBitmapSet, msrBitmapSet};
 
 const QEMU_EXIT_PORT: u32 = 0x604;
+
 const IA32_UMWAIT_CONTROL: u32 = 0xE1;
 // The x2APIC registers (SDM 3A, 11.12.1.2): 64 MSRs from 0x800 on.
 const X2APIC_MSRS: u32 = 0x800;
+
 const X2APIC_COUNT: u32 = 64;
 
 // Adds the port by which a guest ends QEMU: refusal 2.

@@ -1,0 +1,2 @@
+-- The definitions that the contracts of `accessors` cite beside those of `regs`.
+pub mod Accessors

@@ -44,3 +44,9 @@ for n in [2, 1]:
 # the last entry that the count takes, and the count at its end
 for n in [0, 22]:
     print("count", n)
+# reason 64 passes, 65, 35, 38 and 42 are 14; a failed entry of 33, 34 or 41 passes, of another reason is 14; bits 16 to 30 don't count
+for n in [0, 14, 14, 14, 14, 0, 0, 0, 14, 0]:
+    print("report", n)
+# CPUID advances RIP by 2: to 2^64 - 1, and past it
+for n in [0, 17]:
+    print("report", n)

@@ -3,6 +3,8 @@ use libc::STDOUT_FILENO;
 use regs::RegAnswer;
 use vcpu_events::Event;
 use vcpu_events::Injection;
+use vcpu_exit::CpuidWords;
+use vcpu_exit::Report;
 use vcpu_session::Session;
 use vmcs::FieldAnswer;
 use vmcs::controls::ControlAnswer;
@@ -146,6 +148,58 @@ fn events() {
     count(0xFFFF_FFFF);
 }
 
+// A report of this reason at this RIP, to a session that runs.
+fn report(reason: u32, rip: u64) {
+    let mut s = vcpu_session::new();
+    let mut progress = s.progress;
+    progress.phase = 2;
+    s.progress = progress;
+    let registers = s.regs;
+    let r = Report {
+        regs: registers,
+        rip: rip,
+        rsp: 0,
+        rflags: 0,
+        interruptibility: 0,
+        cr0: 0,
+        cr3: 0,
+        cr4: 0,
+        efer: 0,
+        csbase: 0,
+        csrights: 0,
+        ssrights: 0,
+        reason: reason,
+        qualification: 0,
+        length: 0,
+        interruption: 0,
+        code: 0,
+        cpuid: CpuidWords {
+            eax: 0,
+            ebx: 0,
+            ecx: 0,
+            edx: 0,
+        },
+    };
+    let t = vcpu_report::exit_report(s, r);
+    io::write_all(STDOUT_FILENO, b"report ");
+    line(t.refusal as u64);
+}
+
+fn reports() {
+    report(64, 0);
+    report(65, 0);
+    report(35, 0);
+    report(38, 0);
+    report(42, 0);
+    report(0x8000_0021, 0);
+    report(0x8000_0022, 0);
+    report(0x8000_0029, 0);
+    report(0x8000_0000, 0);
+    report(0x0001_0040, 0);
+    report(10, 0xFFFF_FFFF_FFFF_FFFD);
+    report(10, 0xFFFF_FFFF_FFFF_FFFE);
+}
+
 fn ports_and_msrs() {
     ports(65535, 1);
     ports(65535, 2);
@@ -190,4 +244,5 @@ fn main() {
     control(0x16, 0x80, 0);
     control(0x16, 0, 2);
     events();
+    reports();
 }

@@ -5,8 +5,11 @@ use Rattle.definitions.specs.Interruption.{typeNumber, fromVector}
 use Rattle.vmcs.specs.Control.{controlWord, setControl}
 use Rattle.structs.specs.EPTPointer.{eptPointer}
 use Rattle.structs.specs.Frames.{portIndex, quarterOf}
+use Rattle.bits.specs.LittleEndian.{numberOf}
+use Rattle.vcpu_answers.specs.Answer.{answerWords, ioData, isShutdown, isWidth, ioAccess, ioExit, ioAnswer}
+use Rattle.vcpu_answers.specs.Cpuid.{vendorInfo, leafWords}
 use Rattle.worked.specs.Worked.{Case, worked}
 
 pub all-as-wanted : map (λ (c : Case). c .given) worked ≡ map (λ (c : Case). c .wanted) worked
-unfolding controlWord setControl typeNumber fromVector eptPointer portIndex quarterOf
+unfolding controlWord setControl typeNumber fromVector eptPointer portIndex quarterOf numberOf vendorInfo leafWords answerWords ioData isShutdown isWidth ioAccess ioExit ioAnswer
 all-as-wanted = refl

@@ -1,4 +1,4 @@
--- The cases that document 01 works by hand, P1 to P9: each with what the definitions give, and what it should be. Assumes nothing.
+-- The cases that document 01 works by hand, P1 to P13: each with what the definitions give, and what it should be. Assumes nothing.
 use Prim.Native.Nat.{ℕ}
 use mathlib.Core.Bool.{cond, true}
 use mathlib.Core.List.{List, [], _∷_}
@@ -8,6 +8,9 @@ use Rattle.vmcs.specs.Cr.{cr0Words, firstCr0}
 use Rattle.structs.specs.EPTPointer.{eptPointer}
 use Rattle.structs.specs.Frames.{inA, portByte, portBit, msrByte, msrBit}
 use Rattle.structs.specs.declared.Access.the-variants.{Write}
+use Rattle.vcpu_exit.specs.declared.CpuidWords.{CpuidWords}
+use Rattle.vcpu_answers.specs.Answer.{answerWords, ioAnswer}
+use Rattle.vcpu_answers.specs.Cpuid.{cpuidWords, leafWords}
 
 pub record Case : Type 0 where
   pub number : ℕ
@@ -20,6 +23,9 @@ case n g w = record { number = n; given = g; wanted = w }
 -- the frame of a port: 0 is A, 1 is B
 abbrev portFrame : ℕ → ℕ
 portFrame port = cond (inA port) 0 1
+
+abbrev cpuidNumbers : CpuidWords → List ℕ
+cpuidNumbers w = w .eax ∷ w .ebx ∷ w .ecx ∷ w .edx ∷ []
 
 abbrev pub worked : List Case
 worked =
@@ -38,4 +44,10 @@ worked =
     -- vector 14 with a code; vector 21
     ∷ case 8 (eventWord 14 (hasErrorCode 14) ∷ []) (0x80000B0E ∷ [])
     ∷ case 9 (eventWord 21 (hasErrorCode 21) ∷ []) (0x80000715 ∷ [])
+    -- CPUID leaf 0x40000000: the vendor text; leaf 1 with the host's EAX 0x000806EC
+    ∷ case 10 (cpuidNumbers (leafWords 0x40000000 0 (cpuidWords 0 0 0 0))) (0x40000001 ∷ 0x524D5652 ∷ 0x56524D56 ∷ 0x4D56524D ∷ [])
+    ∷ case 11 (leafWords 1 0 (cpuidWords 0x000806EC 0 0 0) .eax ∷ []) (0x0008066C ∷ [])
+    -- qualification 0x06040001, an OUT of two bytes to port 0x604: SystemDown with RAX 0x2000, a write of 0x2000 with RAX 0x12000
+    ∷ case 12 (answerWords (ioAnswer 0x06040001 0x2000)) (4 ∷ 0 ∷ 0 ∷ 0 ∷ 0 ∷ 0 ∷ 0 ∷ 0 ∷ [])
+    ∷ case 13 (answerWords (ioAnswer 0x06040001 0x12000)) (3 ∷ 0x604 ∷ 2 ∷ 0x2000 ∷ 0 ∷ 0 ∷ 0 ∷ 0 ∷ [])
     ∷ []

@@ -1,0 +1,3 @@
+-- The definitions that the contracts of `report_block` cite.
+pub mod Layout
+pub mod Block

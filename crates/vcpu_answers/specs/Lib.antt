@@ -1,0 +1,3 @@
+-- The definitions that the contracts of `vcpu_answers` cite.
+pub mod Answer
+pub mod Cpuid

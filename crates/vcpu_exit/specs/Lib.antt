@@ -1,0 +1,3 @@
+-- The definitions that the contracts of `vcpu_exit` cite.
+pub mod Reading
+pub mod Refusal

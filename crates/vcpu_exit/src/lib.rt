@@ -1,0 +1,263 @@
+// What a VM exit reports, what its words say, and the refusals of a report.
+// Ported from x86_vcpu src/vmx/vcpu.rs (Copyright 2025 The Axvisor Team, Apache-2.0). Changed: what the Rust reads from the processor after an
+// exit is one report, and what it panics at is refused by a number.
+ghost use mathlib.Core.Path.{_≡_};
+ghost use Prim.Native.Nat.{_<_};
+ghost use Rattle.vcpu_exit.specs.Reading.{reasonOf, failed, isApic, readEdxEax, registerOf, movedValue, isMoveTo, turnsPagingOn, advanceTo, advanceOf, pastEnd};
+ghost use Rattle.vcpu_exit.specs.Refusal.{unknownReason, ownedBitsDiffer, noInterrupt, otherAccess, otherXcr, eferRefusal, exitRefusal, reportRefusal};
+use definitions::exit_reason::VmxExitReason;
+use regs::GeneralRegisters;
+use vcpu_session::Phase;
+use vcpu_session::Session;
+use vmcs::Vmcs;
+use vmcs::controls::Pair;
+use vmcs::names::VmcsControl32;
+use vmcs::names::VmcsControlNW;
+use vmcs::names::VmcsGuestNW;
+
+// The four words of CPUID.
+pub struct CpuidWords {
+    pub eax: u32,
+    pub ebx: u32,
+    pub ecx: u32,
+    pub edx: u32,
+}
+
+// What an exit reports: the general registers, the guest's fields, the exit words, and the host's CPUID words for the guest's EAX and ECX.
+pub struct Report {
+    pub regs: GeneralRegisters,
+    pub rip: u64,
+    pub rsp: u64,
+    pub rflags: u64,
+    pub interruptibility: u32,
+    pub cr0: u64,
+    pub cr3: u64,
+    pub cr4: u64,
+    pub efer: u64,
+    pub csbase: u64,
+    pub csrights: u32,
+    pub ssrights: u32,
+    // The full exit reason.
+    pub reason: u32,
+    pub qualification: u64,
+    pub length: u32,
+    // The interruption information and its error code.
+    pub interruption: u32,
+    pub code: u32,
+    pub cpuid: CpuidWords,
+}
+
+// ---- readings
+
+// The basic exit reason.
+pub fn reason_of(r: Report) -> u32
+    ensures { λ n. ⌜ n ≡ reasonOf r ⌝ }
+{
+    let info = vmcs::exit_info::exit_info(r.reason);
+    info.exit_reason
+}
+
+// The entry failed.
+pub fn is_failed(r: Report) -> bool
+    ensures { λ b. ⌜ b ≡ failed r ⌝ }
+{
+    let info = vmcs::exit_info::exit_info(r.reason);
+    info.entry_failure
+}
+
+// Whether ECX is the MSR of an x2APIC register.
+pub fn is_apic(rcx: u64) -> bool
+    ensures { λ b. ⌜ b ≡ isApic rcx ⌝ }
+{
+    let msr = bits::low(rcx);
+    (0x800 <= msr) & (msr <= 0x8FF)
+}
+
+// EDX:EAX.
+pub fn read_edx_eax(g: GeneralRegisters) -> u64
+    ensures { λ n. ⌜ n ≡ readEdxEax g ⌝ }
+{
+    bits::join(bits::low(g.rdx), bits::low(g.rax))
+}
+
+// A register by the number that an instruction has for it. Register 4 is RSP.
+fn register_of(g: GeneralRegisters, rsp: u64, index: u8) -> u64
+    requires { ⌜ index < 16 ⌝ }
+    ensures { λ n. ⌜ n ≡ registerOf g rsp index ⌝ }
+{
+    if index == 4 {
+        return rsp;
+    }
+    let list = regs::to_array(g);
+    let i = index as usize;
+    list[i]
+}
+
+// The value that a move to a control register brings.
+pub fn moved_value(r: Report) -> u64
+    ensures { λ n. ⌜ n ≡ movedValue r ⌝ }
+{
+    let registers = r.regs;
+    let access = vmcs::exit_info::cr_access_info(r.qualification);
+    register_of(registers, r.rsp, access.gpr)
+}
+
+// Whether a control-register access is a move to the register n.
+pub fn is_move_to(r: Report, n: u8) -> bool
+    ensures { λ b. ⌜ b ≡ isMoveTo r n ⌝ }
+{
+    let access = vmcs::exit_info::cr_access_info(r.qualification);
+    (access.access_type == 0) & (access.cr_number == n)
+}
+
+// A move to CR0 of a value with PG.
+fn turns_paging_on(r: Report) -> bool
+    ensures { λ b. ⌜ b ≡ turnsPagingOn r ⌝ }
+{
+    (reason_of(r) == VmxExitReason::CR_ACCESS)
+        & is_move_to(r, 0)
+        & ((moved_value(r) >> 31) % 2 == 1)
+}
+
+fn advance_to(reason: u32, r: Report) -> u64
+    ensures { λ n. ⌜ n ≡ advanceTo reason r ⌝ }
+{
+    if reason == VmxExitReason::CPUID {
+        return 2;
+    }
+    if reason == VmxExitReason::CR_ACCESS {
+        return 3;
+    }
+    if (reason == VmxExitReason::VMCALL) | (reason == VmxExitReason::IO_INSTRUCTION) {
+        return r.length as u64 % 0x100;
+    }
+    if ((reason == VmxExitReason::MSR_READ) | (reason == VmxExitReason::MSR_WRITE))
+        & is_apic(r.regs.rcx)
+    {
+        return 2;
+    }
+    0
+}
+
+// By how much RIP advances.
+pub fn advance_of(r: Report) -> u64
+    ensures { λ n. ⌜ n ≡ advanceOf r ⌝ }
+{
+    advance_to(reason_of(r), r)
+}
+
+// ---- refusals
+
+// 14: above 64, or 35, 38 or 42, which the manual leaves out, or failed with a reason other than 33, 34 and 41.
+fn unknown_reason(r: Report) -> bool
+    ensures { λ b. ⌜ b ≡ unknownReason r ⌝ }
+{
+    let n = reason_of(r);
+    let known = (n <= 64) & (n != 35) & (n != 38) & (n != 42);
+    let entry = (n == VmxExitReason::INVALID_GUEST_STATE)
+        | (n == VmxExitReason::MSR_LOAD_FAIL)
+        | (n == VmxExitReason::MCE_DURING_VMENTRY);
+    !known | (is_failed(r) & !entry)
+}
+
+// 15: a bit of CR0 or CR4 under its guest/host mask differs from the session's.
+fn owned_bits_differ(v: Vmcs, r: Report) -> bool
+    ensures { λ b. ⌜ b ≡ ownedBitsDiffer v r ⌝ }
+{
+    let mask0 = v.natural[VmcsControlNW::CR0_GUEST_HOST_MASK];
+    let mask4 = v.natural[VmcsControlNW::CR4_GUEST_HOST_MASK];
+    let cr0 = v.natural[VmcsGuestNW::CR0];
+    let cr4 = v.natural[VmcsGuestNW::CR4];
+    (r.cr0 & mask0 != cr0 & mask0) | (r.cr4 & mask4 != cr4 & mask4)
+}
+
+// 16: an external interrupt whose information is not valid, or of the reserved type.
+fn no_interrupt(r: Report) -> bool
+    ensures { λ b. ⌜ b ≡ noInterrupt r ⌝ }
+{
+    let info = vmcs::exit_info::interrupt_exit_info(r.interruption);
+    let int_type = definitions::type_number(definitions::type_of(r.interruption));
+    (reason_of(r) == VmxExitReason::EXTERNAL_INTERRUPT) & (!info.valid | (int_type == 1))
+}
+
+// 18: a control-register access that is no move to CR0 or CR4.
+fn other_access(r: Report) -> bool
+    ensures { λ b. ⌜ b ≡ otherAccess r ⌝ }
+{
+    (reason_of(r) == VmxExitReason::CR_ACCESS) & !(is_move_to(r, 0) | is_move_to(r, 4))
+}
+
+// 20: XSETBV with ECX not 0.
+fn other_xcr(r: Report) -> bool
+    ensures { λ b. ⌜ b ≡ otherXcr r ⌝ }
+{
+    (reason_of(r) == VmxExitReason::XSETBV) & (bits::low(r.regs.rcx) != 0)
+}
+
+// 17: RIP would pass 2^64 - 1.
+fn past_end(r: Report) -> bool
+    ensures { λ b. ⌜ b ≡ pastEnd r ⌝ }
+{
+    0xFFFF_FFFF_FFFF_FFFF - advance_of(r) < r.rip
+}
+
+// 8: paging is turned on, and the entry controls cannot follow.
+fn efer_refusal(pair: Pair, entry: u32, r: Report) -> u32
+    ensures { λ n. ⌜ n ≡ eferRefusal pair entry r ⌝ }
+{
+    if turns_paging_on(r) {
+        let update = vmcs::controls::update_efer(pair, r.efer, entry);
+        return update.refusal;
+    }
+    0
+}
+
+// The refusals of an exit: 16; 18; 20; 19, XSETBV with ECX 0; 21, an APIC access; 17; 8.
+fn exit_refusal(pair: Pair, entry: u32, r: Report) -> u32
+    ensures { λ n. ⌜ n ≡ exitRefusal pair entry r ⌝ }
+{
+    let reason = reason_of(r);
+    if no_interrupt(r) {
+        return 16;
+    }
+    if other_access(r) {
+        return 18;
+    }
+    if other_xcr(r) {
+        return 20;
+    }
+    if reason == VmxExitReason::XSETBV {
+        return 19;
+    }
+    if reason == VmxExitReason::APIC_ACCESS {
+        return 21;
+    }
+    if past_end(r) {
+        return 17;
+    }
+    efer_refusal(pair, entry, r)
+}
+
+// The refusal of a report, or 0: 2; 1, not running; 14; 15; then those of the exit. A failed entry meets 2, 1 and 14 only.
+pub fn report_refusal(s: Session, r: Report) -> u32
+    ensures { λ n. ⌜ n ≡ reportRefusal s r ⌝ }
+{
+    let v = s.vmcs;
+    let pairs = s.capabilities.pairs;
+    if vcpu_session::is_unlawful(s) {
+        return 2;
+    }
+    if s.progress.phase != Phase::RUNNING {
+        return 1;
+    }
+    if unknown_reason(r) {
+        return 14;
+    }
+    if is_failed(r) {
+        return 0;
+    }
+    if owned_bits_differ(v, r) {
+        return 15;
+    }
+    exit_refusal(pairs[4], v.w32[VmcsControl32::VMENTRY_CONTROLS], r)
+}

@@ -1,0 +1,2 @@
+-- The definitions that the contracts of `vcpu_handlers` cite.
+pub mod Handlers

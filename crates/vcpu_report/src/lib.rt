@@ -1,0 +1,113 @@
+// The exit report: what a VM exit leaves in the session, and what the host is to do.
+// Ported from `inner_run` after the exit and `run` of x86_vcpu src/vmx/vcpu.rs (Copyright 2025 The Axvisor Team, Apache-2.0). Changed: the host hands in what
+// the processor reported, and a failed entry ends the session.
+ghost use mathlib.Core.Path.{_≡_};
+ghost use mathlib.Core.Bool.{false};
+ghost use Rattle.vcpu_exit.specs.Reading.{pastEnd};
+ghost use Rattle.vcpu_exit.specs.Refusal.{reportRefusal};
+ghost use Rattle.vcpu_report.specs.ExitReport.{registersAfter, phaseAfter, failedEntry, afterExit, accepted, exitReport};
+use definitions::exit_reason::VmxExitReason;
+use regs::GeneralRegisters;
+use vcpu_answers::AxVCpuExitReason;
+use vcpu_exit::Report;
+use vcpu_session::Phase;
+use vcpu_session::Session;
+
+// The refusal or 0, the answer, and the session: as it was where the report is refused, and then only the number counts.
+pub struct Reported {
+    pub refusal: u32,
+    pub answer: AxVCpuExitReason,
+    pub session: Session,
+}
+
+// The general registers after an exit: CPUID changes four of them.
+fn registers_after(r: Report) -> GeneralRegisters
+    ensures { λ g. ⌜ g ≡ registersAfter r ⌝ }
+{
+    let registers = r.regs;
+    let host = r.cpuid;
+    if vcpu_exit::reason_of(r) == VmxExitReason::CPUID {
+        return vcpu_answers::cpuid::handle_cpuid(registers, host);
+    }
+    registers
+}
+
+// A read of an APIC register waits for its value.
+fn phase_after(r: Report) -> u8
+    ensures { λ p. ⌜ p ≡ phaseAfter r ⌝ }
+{
+    if vcpu_exit::reason_of(r) == VmxExitReason::MSR_READ {
+        if vcpu_exit::is_apic(r.regs.rcx) {
+            return Phase::WAITING;
+        }
+    }
+    Phase::READY
+}
+
+// A failed entry stores reason and qualification only, and ends the session.
+fn failed_entry(s: Session, r: Report) -> Session
+    ensures { λ t. ⌜ t ≡ failedEntry s r ⌝ }
+{
+    let old = s.vmcs;
+    let fields = vcpu_handlers::store_failure(old, r);
+    let mut progress = s.progress;
+    progress.phase = Phase::ENDED;
+    let mut t = s;
+    t.progress = progress;
+    t.vmcs = fields;
+    t
+}
+
+fn after_exit(s: Session, r: Report) -> Session
+    requires { ⌜ pastEnd r ≡ false ⌝ }
+    ensures { λ t. ⌜ t ≡ afterExit s r ⌝ }
+{
+    let old = s.vmcs;
+    let capabilities = s.capabilities;
+    let fields = vcpu_handlers::vmcs_after(old, capabilities, r);
+    let registers = registers_after(r);
+    let phase = phase_after(r);
+    let mut progress = s.progress;
+    progress.phase = phase;
+    let mut t = s;
+    t.progress = progress;
+    t.regs = registers;
+    t.vmcs = fields;
+    t
+}
+
+fn accept(s: Session, r: Report) -> Reported
+    requires { ⌜ reportRefusal s r ≡ 0 ⌝ }
+    ensures { λ a. ⌜ a ≡ accepted s r ⌝ }
+{
+    if vcpu_exit::is_failed(r) {
+        let t = failed_entry(s, r);
+        return Reported {
+            refusal: 0,
+            answer: AxVCpuExitReason::FailEntry { reason: 0 },
+            session: t,
+        };
+    }
+    let answer = vcpu_answers::answer_of(r);
+    let t = after_exit(s, r);
+    Reported {
+        refusal: 0,
+        answer: answer,
+        session: t,
+    }
+}
+
+// Refusals: 2; 1, not running; 14; 15; 16; 18; 20; 19; 21; 17; 8 (vcpu_exit::report_refusal).
+pub fn exit_report(s: Session, r: Report) -> Reported
+    ensures { λ a. ⌜ a ≡ exitReport s r ⌝ }
+{
+    let refusal = vcpu_exit::report_refusal(s, r);
+    if refusal != 0 {
+        return Reported {
+            refusal: refusal,
+            answer: AxVCpuExitReason::Nothing,
+            session: s,
+        };
+    }
+    accept(s, r)
+}

@@ -57,7 +57,7 @@ MUTATIONS = [
         ("if place < 58 {\n        return v.w64[place - 17];", "if place < 58 {\n        return v.w64[57 - place];"),
         ("next.w32[place - 58] = value as u32;", "next.w32[107 - place] = value as u32;"),
         ("FieldAnswer::Refused(3)", "FieldAnswer::Refused(4)"),
-        ("refusal: 4,", "refusal: 5,"),
+        ("return 4;", "return 5;"),
         ("if greatest_of(encoding) < value {", "if greatest_of(encoding) <= value {"),
         ("if width == 2 {\n        return 32;", "if width == 1 {\n        return 32;"),
     ),

@@ -4,7 +4,7 @@
 Usage: tools/vmcs_names.py [--check]     (in the repository's root)
 
 Every enum but VmcsControl16 is carried over, 154 fields. Written are crates/vmcs/src/names.rt (places in code),
-crates/vmcs/src/table.rt (the encodings), crates/vmcs/specs/Names/*.antt (names in definitions) and
+crates/vmcs/src/table.rt (the encodings, and where each width and kind starts), crates/vmcs/specs/Names/*.antt (names in definitions) and
 crates/vmcs/specs/Named.antt (kind, name and encoding). With --check nothing is written, and the exit status is 1
 where a file differs from what would be written.
 """
@@ -42,10 +42,30 @@ out["src/names.rt"] = text
 
 text = """// The table of fields: the encodings of the enums of vmcs.rs but VmcsControl16, ascending.
 ghost use mathlib.Core.Path.{_≡_};
-ghost use Rattle.vmcs.specs.Named.{placesNamed};
+ghost use Rattle.vmcs.specs.Named.{encodings, placesNamed};
 """
 text += "".join("use names::%s;\n" % e for e in sorted(enums)).replace("use names", "use crate::names")
 text += "\npub const ENCODINGS: [u64; 154] = [\n" + "".join("    0x%04X,\n" % x for x, _, _ in fields) + "];\n"
+text += """
+// The table by value.
+pub fn table() -> [u64; 154]
+    ensures { λ r. ⌜ r ≡ encodings ⌝ }
+{
+    ENCODINGS
+}
+"""
+starts, counts = [0] * 32, [0] * 32
+for place, (x, _, _) in enumerate(fields):
+    group = x >> 10
+    if x & 0x3FF == 0:
+        starts[group] = place
+    if x & 0x3FF == 2 * counts[group]:
+        counts[group] += 1
+for name, numbers, comment in (
+    ("STARTS", starts, "The place of the first field of each width and kind, by bits 10 to 14 of the encoding; 0 where there is none."),
+    ("COUNTS", counts, "How many fields each width and kind has, up to the first index that no field has."),
+):
+    text += "\n// %s\npub const %s: [u8; 32] = [\n" % (comment, name) + "".join("    %d,\n" % n for n in numbers) + "];\n"
 text += """
 // Every name of names.rt in the order of the table: the contract ties each to its encoding.
 pub fn places() -> [usize; 154]

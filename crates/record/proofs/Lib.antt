@@ -6,3 +6,4 @@ pub mod Flags
 pub mod Codecs
 pub mod Accepted
 pub mod RoundTrip
+pub mod InPlace

@@ -31,13 +31,13 @@ use Rattle.record.proofs.Accepted.{passed, acceptable, accepts-acceptab
 use Rattle.record.proofs.Codecs.{Codec, run, number, numbers-codec, registers-read, yes-no, flags, pair, fixed}
 
 -- how many bytes each part has
-abbrev sizes : List ℕ
+abbrev pub sizes : List ℕ
 sizes = 1 ∷ 1 ∷ 4 ∷ 4 ∷ 128 ∷ 34 ∷ 200 ∷ 328 ∷ 368 ∷ 1 ∷ 64 ∷ 64 ∷ 256 ∷ 40 ∷ 16 ∷ 16 ∷ []
 
 -- ---- the bytes of a session
 
 module _ (s : Session) (f : Fitting s) where
-  lengths : map length (partsOf s) ≡ sizes
+  pub lengths : map length (partsOf s) ≡ sizes
   lengths =
       λ i.
       number 1 .sized (s .progress .phase) (f .progress .phase) i

@@ -7,6 +7,7 @@ use lib.Dec.{eqb, leb}
 use Rattle.bits.specs.LittleEndian.{littleEndian, bytesOf}
 use Rattle.regs.specs.Registers.{listOf, ofList}
 use Rattle.regs.specs.declared.GeneralRegisters.{GeneralRegisters}
+use Rattle.vmcs.specs.Field.{Field, put}
 use Rattle.vmcs.specs.declared.Vmcs.{Vmcs}
 use Rattle.vmcs.specs.declared.controls.Pair.{Pair}
 use Rattle.vcpu_session.specs.declared.Progress.{Progress}
@@ -14,7 +15,7 @@ use Rattle.vcpu_session.specs.declared.Queue.{Queue}
 use Rattle.vcpu_session.specs.declared.Fixed.{Fixed}
 use Rattle.vcpu_session.specs.declared.Capabilities.{Capabilities}
 use Rattle.vcpu_session.specs.declared.Session.{Session}
-use Rattle.vcpu_session.specs.Session.{newSession}
+use Rattle.vcpu_session.specs.Session.{newSession, withVmcs}
 use Rattle.record.specs.declared.Decoded.{Decoded}
 use Rattle.record.specs.Runs.{readAll, numbers, numberBytes, flagOf, flagBytes, flagsValid}
 use Rattle.record.specs.Record as Record
@@ -63,6 +64,10 @@ sessionOf b =
         cr4 = fixedOf (drop Record.CR4 b);
       };
     }
+
+-- a session with x in a field of its VMCS
+abbrev pub withField : Session → Field → ℕ → Session
+withField s f x = withVmcs s (put (s .vmcs) f x)
 
 -- ---- the bytes of a session: those of each part, in order
 

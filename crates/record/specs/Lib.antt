@@ -5,3 +5,4 @@ pub mod Codec
 pub mod Fitting
 pub mod Acceptable
 pub mod Faithful
+pub mod Changed

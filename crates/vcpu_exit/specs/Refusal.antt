@@ -15,7 +15,6 @@ use Rattle.vmcs.specs.Names.VmcsControlNW as VmcsControlNW
 use Rattle.vmcs.specs.Names.VmcsGuestNW as VmcsGuestNW
 use Rattle.vmcs.specs.declared.Vmcs.{Vmcs}
 use Rattle.vmcs.specs.declared.controls.Pair.{Pair}
-use Rattle.vmcs.specs.declared.controls.EferUpdate.{EferUpdate}
 use Rattle.vcpu_session.specs.Phase as Phase
 use Rattle.vcpu_session.specs.Session.{isUnlawful}
 use Rattle.vcpu_session.specs.declared.Capabilities.{Capabilities}

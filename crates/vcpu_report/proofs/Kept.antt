@@ -1,7 +1,7 @@
 -- The control words, CR0 and CR4 stay permitted over an accepted exit. Assumes nothing.
-use mathlib.Core.Path.{_≡_, refl, sym, _∙_}
+use mathlib.Core.Path.{_≡_, refl, sym}
 use mathlib.Core.Bool.{Bool, true, false, cond, not, _&&_, _||_, true≢false}
-use mathlib.Core.List.{List, [], _∷_}
+use mathlib.Core.List.{[], _∷_}
 use Prim.Native.Nat.{ℕ, _+_, _<_, _/_, _%_, _^_}
 use native.Mathlib.Omega.{arith}
 use lib.Bits.{bitAnd, bitOr, and-le-l}
@@ -10,7 +10,6 @@ use borrow.Author.Tests.{eqb-true, eqb-false, eq-eqb}
 use Rattle.bits.specs.Words.{bit, bitNot, Within}
 use Rattle.bits.proofs.WordLaws.{words, within-pow}
 use Rattle.definitions.specs.VmxExitReason as VmxExitReason
-use Rattle.vmcs.specs.Control.{controlWord}
 use Rattle.vmcs.specs.Cr.{cr0Free, cr0Off, cr0Words, cr4Words}
 use Rattle.vmcs.specs.Efer.{isLongMode, lacksIa32e, longModeEfer, longModeEntry, eferUpdate, updateEfer}
 use Rattle.vmcs.specs.Field.{valueOf}
@@ -19,7 +18,7 @@ use Rattle.vmcs.specs.Names.VmcsControl32 as VmcsControl32
 use Rattle.vmcs.specs.Names.VmcsControlNW as VmcsControlNW
 use Rattle.vmcs.specs.Names.VmcsGuest32 as VmcsGuest32
 use Rattle.vmcs.specs.Names.VmcsGuestNW as VmcsGuestNW
-use Rattle.vmcs.specs.Writes.{Write, _≔_}
+use Rattle.vmcs.specs.Writes.{_≔_}
 use Rattle.vmcs.specs.declared.Vmcs.{Vmcs}
 use Rattle.vmcs.specs.declared.controls.EferUpdate.{EferUpdate}
 use Rattle.vmcs.specs.declared.controls.Pair.{Pair}
@@ -30,7 +29,7 @@ use Rattle.vcpu_exit.specs.Refusal.{ownedBitsDiffer, otherAccess, eferRefusal, 
 use Rattle.vcpu_exit.specs.declared.Report.{Report}
 use Rattle.vcpu_exit.proofs.Conds.{cond-all}
 use Rattle.vcpu_handlers.specs.Handlers.{reportWrites, stored, windowWord, windowSet, timerSet, cr0Writes, cr4Writes, cr0Set, cr4Set, eferWrites, eferUpdated, handled, ripAdvanced, vmcsAfter, failureWrites, failureStored}
-use Rattle.vcpu_report.specs.Invariant.{Consistent, PermittedBy, SoundWords, SoundFields, Fits}
+use Rattle.vcpu_report.specs.Invariant.{Consistent, PermittedBy, SoundFields, Fits}
 use Rattle.vcpu_report.proofs.Steps.{by-move, by-reason, kept-by}
 use Rattle.vcpu_report.proofs.Words.{aside-clear, agreed, moved-to}
 

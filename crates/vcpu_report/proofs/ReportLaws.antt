@@ -1,13 +1,12 @@
 -- The laws of the exit report hold of every session and report. Assumes nothing.
-use mathlib.Core.Path.{_≡_, refl, sym, ap, _∙_}
-use mathlib.Core.Bool.{Bool, true, false, cond}
-use mathlib.Core.List.{[], _∷_}
-use Prim.Native.Nat.{ℕ, _≤_, _<_}
+use mathlib.Core.Path.{_≡_, refl, sym, ap}
+use mathlib.Core.Bool.{true, false}
+use Prim.Native.Nat.{ℕ, _≤_}
 use native.Mathlib.Omega.{arith}
 use lib.Dec.{eqb}
 use borrow.Author.Tests.{eqb-true, eq-eqb}
 use Rattle.definitions.specs.VmxExitReason as VmxExitReason
-use Rattle.vmcs.specs.Field.{Field, placeOf, sizeOf, valueOf}
+use Rattle.vmcs.specs.Field.{valueOf}
 use Rattle.vmcs.specs.Names.VmcsControl32 as VmcsControl32
 use Rattle.vmcs.specs.Names.VmcsGuest32 as VmcsGuest32
 use Rattle.vmcs.specs.Names.VmcsGuestNW as VmcsGuestNW
@@ -15,7 +14,6 @@ use Rattle.vmcs.specs.Names.VmcsReadOnly32 as VmcsReadOnly32
 use Rattle.vmcs.specs.Names.VmcsReadOnlyNW as VmcsReadOnlyNW
 use Rattle.vmcs.specs.Writes.{Sized}
 use Rattle.vmcs.proofs.WriteLaws.{sized-applied, read-applied}
-use Rattle.vcpu_session.specs.Phase as Phase
 use Rattle.vcpu_session.specs.Session.{Lawful}
 use Rattle.vcpu_session.specs.declared.Session.{Session}
 use Rattle.vcpu_exit.specs.Reading.{reasonOf, failed, isApic}
@@ -26,7 +24,7 @@ use Rattle.vcpu_exit.proofs.Passes.{passes}
 use Rattle.vcpu_answers.specs.Answer.{answerOf}
 use Rattle.vcpu_answers.specs.declared.AxVCpuExitReason.the-variants.{Nothing, FailEntry}
 use Rattle.vcpu_handlers.specs.Handlers.{failureWrites, failureStored}
-use Rattle.vcpu_report.specs.ExitReport.{phaseAfter, registersAfter, failedEntry, afterExit, accepted, exitReport, reported}
+use Rattle.vcpu_report.specs.ExitReport.{phaseAfter, failedEntry, afterExit, accepted, exitReport, reported}
 use Rattle.vcpu_report.specs.Invariant.{Consistent, Sound, Fits}
 use Rattle.vcpu_report.specs.Laws.{SameRest, AfterExit, AfterFailure, ReportLaws}
 use Rattle.vcpu_report.specs.declared.Reported.{Reported}

@@ -1,5 +1,6 @@
 pub mod Scan
 pub mod TableTest
+pub mod Lookup
 pub mod FieldLaws
 pub mod WriteLaws
 pub mod ControlLaws

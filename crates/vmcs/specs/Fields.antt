@@ -45,6 +45,14 @@ abbrev pub written : ℕ → Vmcs → Written
 written n v = record { refusal = n; vmcs = v }
 
 -- 3: no such encoding. 4: read-only. 5: the value is wider than the field
+unfoldable pub writeRefusal : ℕ → ℕ → ℕ
+writeRefusal encoding x =
+    cond (leb 154 (positionOf encodings encoding)) 3
+    (cond (readOnly encoding) 4
+    (cond (ltb (greatestOf encoding) x) 5
+    0))
+
+-- the same numbers
 unfoldable pub vmcsWrite : Vmcs → ℕ → ℕ → Written
 vmcsWrite v encoding x =
     cond (leb 154 (positionOf encodings encoding)) (written 3 v)

@@ -3,6 +3,7 @@ pub mod Field
 pub mod Names
 pub mod Named
 pub mod Fields
+pub mod Lookup
 pub mod Rules
 pub mod Writes
 pub mod Flags

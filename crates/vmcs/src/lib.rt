@@ -5,7 +5,7 @@ ghost use mathlib.Core.Path.{_≡_};
 ghost use Prim.Native.Nat.{_<_, _^_, _-_};
 ghost use Rattle.vmcs.specs.Field.{widthBits, valueOf, put};
 ghost use Rattle.vmcs.specs.Named.{encodings};
-ghost use Rattle.vmcs.specs.Fields.{positionOf, fieldAt, widthOf, greatestOf, readOnly, vmcsRead, vmcsWrite};
+ghost use Rattle.vmcs.specs.Fields.{positionOf, fieldAt, widthOf, greatestOf, readOnly, vmcsRead, writeRefusal, vmcsWrite};
 
 pub mod controls;
 pub mod exit_info;
@@ -13,7 +13,8 @@ pub mod flags;
 pub mod names;
 pub mod table;
 
-use table::ENCODINGS;
+use table::COUNTS;
+use table::STARTS;
 
 // The fields by width, each array in ascending order of encoding.
 pub struct Vmcs {
@@ -35,19 +36,26 @@ pub struct Written {
     pub vmcs: Vmcs,
 }
 
-// The place of an encoding in the table, or 154 where it has none.
-fn position(encoding: u64) -> usize
+// The place of an encoding in the table, or 154 where it has none. The fields of a width and kind have the indexes from 0 on,
+// but that none has 0x482C.
+pub fn position(encoding: u64) -> usize
     ensures { λ r. ⌜ r ≡ positionOf encodings encoding ⌝ }
 {
-    let table = ENCODINGS;
-    let mut i: usize = 0;
-    while i < 154 {
-        if table[i] == encoding {
-            return i;
-        }
-        i += 1;
+    if encoding == 0x482E {
+        return 106;
     }
-    i
+    if 0x8000 <= encoding {
+        return 154;
+    }
+    if encoding % 2 == 1 {
+        return 154;
+    }
+    let group = (encoding >> 10) as usize;
+    let index = ((encoding >> 1) % 512) as usize;
+    if COUNTS[group] as usize <= index {
+        return 154;
+    }
+    STARTS[group] as usize + index
 }
 
 // The width in bits of the fields of an encoding: bits 13 to 14 (SDM 3D, appendix B). The natural width is 64.
@@ -135,29 +143,34 @@ pub fn vmcs_read(v: Vmcs, encoding: u64) -> FieldAnswer
     FieldAnswer::Refused(3)
 }
 
-// The fields with a value in one of them. Refusals: 3, no such encoding; 4, read-only; 5, the value is wider than the field.
+// Why a write of a value is refused, or 0. Refusals: 3, no such encoding; 4, read-only; 5, the value is wider than the field.
+pub fn write_refusal(encoding: u64, value: u64) -> u32
+    ensures { λ r. ⌜ r ≡ writeRefusal encoding value ⌝ }
+{
+    if 154 <= position(encoding) {
+        return 3;
+    }
+    if read_only(encoding) {
+        return 4;
+    }
+    if greatest_of(encoding) < value {
+        return 5;
+    }
+    0
+}
+
+// The fields with a value in one of them. Refusals: 3, 4, 5.
 pub fn vmcs_write(v: Vmcs, encoding: u64, value: u64) -> Written
     ensures { λ r. ⌜ r ≡ vmcsWrite v encoding value ⌝ }
 {
+    let refusal = write_refusal(encoding, value);
+    if refusal != 0 {
+        return Written {
+            refusal: refusal,
+            vmcs: v,
+        };
+    }
     let place = position(encoding);
-    if 154 <= place {
-        return Written {
-            refusal: 3,
-            vmcs: v,
-        };
-    }
-    if read_only(encoding) {
-        return Written {
-            refusal: 4,
-            vmcs: v,
-        };
-    }
-    if greatest_of(encoding) < value {
-        return Written {
-            refusal: 5,
-            vmcs: v,
-        };
-    }
     let next = put_at(v, place, value);
     Written {
         refusal: 0,

@@ -1,6 +1,6 @@
 // The table of fields: the encodings of the enums of vmcs.rs but VmcsControl16, ascending.
 ghost use mathlib.Core.Path.{_≡_};
-ghost use Rattle.vmcs.specs.Named.{placesNamed};
+ghost use Rattle.vmcs.specs.Named.{encodings, placesNamed};
 use crate::names::VmcsControl32;
 use crate::names::VmcsControl64;
 use crate::names::VmcsControlNW;
@@ -171,6 +171,85 @@ pub const ENCODINGS: [u64; 154] = [
     0x6C12,
     0x6C14,
     0x6C16,
+];
+
+// The table by value.
+pub fn table() -> [u64; 154]
+    ensures { λ r. ⌜ r ≡ encodings ⌝ }
+{
+    ENCODINGS
+}
+
+// The place of the first field of each width and kind, by bits 10 to 14 of the encoding; 0 where there is none.
+pub const STARTS: [u8; 32] = [
+    0,
+    0,
+    0,
+    10,
+    0,
+    0,
+    0,
+    0,
+    17,
+    43,
+    44,
+    55,
+    0,
+    0,
+    0,
+    0,
+    58,
+    76,
+    84,
+    107,
+    0,
+    0,
+    0,
+    0,
+    108,
+    116,
+    122,
+    142,
+    0,
+    0,
+    0,
+    0,
+];
+
+// How many fields each width and kind has, up to the first index that no field has.
+pub const COUNTS: [u8; 32] = [
+    0,
+    0,
+    10,
+    7,
+    0,
+    0,
+    0,
+    0,
+    26,
+    1,
+    11,
+    3,
+    0,
+    0,
+    0,
+    0,
+    18,
+    8,
+    22,
+    1,
+    0,
+    0,
+    0,
+    0,
+    8,
+    6,
+    20,
+    12,
+    0,
+    0,
+    0,
+    0,
 ];
 
 // Every name of names.rt in the order of the table: the contract ties each to its encoding.

@@ -1,4 +1,4 @@
-// The calls that take a session: a record of Record::LENGTH bytes, tested first, then read, stepped and written back.
+// The calls that take a session: a record of Record::LENGTH bytes, tested first, then read, stepped and written back; a field is written in place.
 ghost use mathlib.Core.Path.{_≡_};
 ghost use lib.ListN.{length, replicate};
 ghost use Rattle.vcpu_events.specs.Queue.{injectInterrupt};
@@ -70,12 +70,12 @@ pub extern "C" fn vcpu_write_field(bytes: &mut [u8], encoding: u64, value: u64) 
     ensures { λ r. ⌜ Called (λ s. writeField s encoding value) (now (bytes .entry)) r (now (bytes .exit)) ⌝ }
 {
     if record::accepts(bytes) {
-        let s = record::session_at(bytes);
-        let t = vcpu_access::write_field(s, encoding, value);
-        if t.refusal != 0 {
-            return t.refusal;
+        let refusal = vmcs::write_refusal(encoding, value);
+        if refusal != 0 {
+            return refusal;
         }
-        record::put_session(bytes, t.session);
+        let place = vmcs::position(encoding);
+        record::put_field(bytes, place, value);
         0
     } else {
         2
@@ -146,9 +146,10 @@ pub extern "C" fn vcpu_entry(
             return e.refusal;
         }
         let what = e.injection;
+        let number = injection_number(what);
         *resumed = e.resumed as u8;
-        *injection = injection_number(what);
-        record::put_session(bytes, e.session);
+        *injection = number;
+        record::put_changed(bytes, e.session, number == 2);
         0
     } else {
         2

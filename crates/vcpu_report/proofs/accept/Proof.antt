@@ -1,7 +1,6 @@
 -- `vcpu_report::accept` meets its contract: an accepted report has passed 17. Assumes nothing.
 use mathlib.Core.Path.{sym, _∙_}
 use borrow.Author.Needs.{needs}
-use Rattle.bits.proofs.Tests.{answers}
 use Rattle.vcpu_exit.proofs.Passes.{passes}
 use Rattle.vcpu_report.specs.ExitReport.{accepted}
 use Rattle.vcpu_report.proofs.accept.Statement.{statement}

@@ -1,32 +1,21 @@
 -- `vmcs::vmcs_write` meets its contract. Assumes nothing.
-use Prim.Native.Nat.{_<_, _≤_}
-use native.Mathlib.Omega.{arith}
+use mathlib.Core.Path.{_≡_, sym, _∙_}
 use borrow.Author.Needs.{needs}
-use Rattle.bits.proofs.Tests.{answers}
-use Rattle.vmcs.specs.Named.{encodings}
-use Rattle.vmcs.specs.Fields.{positionOf, greatestOf, vmcsWrite}
-use Rattle.vmcs.proofs.FieldLaws.{fits-field}
+use borrow.Author.Tests.{ne-eqb}
+use Rattle.vmcs.specs.Fields.{writeRefusal}
+use Rattle.vmcs.proofs.FieldLaws.{write-by-refusal, writable}
 use Rattle.vmcs.proofs.vmcs_write.Statement.{statement}
 use Rattle.vmcs.proofs.vmcs_write.Tie as tie
 
-put-at-requires : tie.Need-put-at-requires
-put-at-requires c κs =
-    let t = c .before .before .before .before .before in
-    let e = t .before .args .encoding in
-    let known : positionOf encodings e < 154 = omega (arith, t .position .ensures) in
-    let small : t .before .args .value ≤ greatestOf e = omega (arith, c .before .greatest-of .ensures) in
-    (search needs, rw (t .position .ensures) (fits-field e (t .before .args .value) known small))
+accepted : (c : tie.Else1) → writeRefusal (c .before .before .args .encoding) (c .before .before .args .value) ≡ 0
+accepted c = sym (c .before .write-refusal .ensures) ∙ c .if1 .left
 
 pub vmcs-write-spec : {M : Type 1} → statement M
-unfolding vmcsWrite
 vmcs-write-spec =
     tie.close
     (tie.spec
     (λ c κs. search needs)
-    (λ c. search (answers, ← c .before .position .ensures))
+    (λ c. rw (write-by-refusal, ← (c .before .write-refusal .ensures), ne-eqb _ _ (c .if1 .taken)))
     (λ c κs. search needs)
-    (λ c. search (answers, c .if2 .taken, ← c .before .read-only .ensures, ← c .before .before .before .position .ensures))
-    (λ c κs. search needs)
-    (λ c. search (answers, ← c .before .greatest-of .ensures, c .before .before .if2 .left, ← c .before .before .before .read-only .ensures, ← c .before .before .before .before .before .position .ensures))
-    put-at-requires
-    (λ c. search (answers, ← c .put-at .ensures, ← c .before .before .greatest-of .ensures, c .before .before .before .if2 .left, ← c .before .before .before .before .read-only .ensures, ← c .before .before .before .before .before .before .position .ensures)))
+    (λ c κs. rw (c .position .ensures) (writable _ _ (accepted (c .before))))
+    (λ c. rw (write-by-refusal, accepted (c .before .before), ← (c .before .position .ensures), c .put-at .ensures)))

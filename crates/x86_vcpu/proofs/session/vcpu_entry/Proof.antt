@@ -4,6 +4,7 @@ use borrow.Author.Needs.{needs}
 use Rattle.record.proofs.Accepted.{accepted-length}
 use Rattle.x86_vcpu.proofs.Calls.{entry-no-record, entry-refused, entry-stored}
 use Rattle.x86_vcpu.proofs.Keeps.{keeps-entry}
+use Rattle.x86_vcpu.proofs.EntryRest.{entry-rest}
 use Rattle.x86_vcpu.proofs.session.vcpu_entry.Statement.{statement}
 use Rattle.x86_vcpu.proofs.session.vcpu_entry.Tie as tie
 
@@ -14,15 +15,23 @@ refuses c =
     let a = w .before .before .before .args in
     entry-refused (a .stack) _ _ (w .accepts .ensures) (t .before .before .before .if1 .taken) (t .before .session-at .ensures) (t .enter .ensures) (c .if2 .taken)
 
-stores : tie.Need-returns-2
-stores c =
-    let n = c .before .before .before .before in
-    let t = n .before .before .before .before in
+rest : tie.Need-put-changed-requires
+rest c κs =
+    let n = c .before .before in
+    let t = n .before .before .before in
     let w = t .before .before .before .before in
     let a = w .before .before .before .args in
-    let put = c .before .before .put-session .ensures in
+    entry-rest (a .stack) (w .accepts .ensures) (t .before .before .before .if1 .taken) (t .before .session-at .ensures) (t .enter .ensures) (n .injection-number .result) (n .injection-number .ensures)
+
+stores : tie.Need-returns-2
+stores c =
+    let n = c .before .before .before .before .before in
+    let t = n .before .before .before in
+    let w = t .before .before .before .before in
+    let a = w .before .before .before .args in
+    let put = c .before .before .put-changed .ensures in
     entry-stored (a .stack) _ _ (w .accepts .ensures) (t .before .before .before .if1 .taken) (t .before .session-at .ensures) (t .enter .ensures)
-    (n .before .before .if2 .left) (put .0) (put .1) refl (n .injection-number .ensures) (keeps-entry (a .stack))
+    (n .before .if2 .left) (put .0) (put .1) refl (n .injection-number .ensures) (keeps-entry (a .stack))
 
 refuses-bytes : tie.Need-returns-3
 refuses-bytes c =
@@ -38,9 +47,9 @@ vcpu-entry-spec =
     (λ c κs. search needs)
     (λ c. search needs)
     refuses
-    (λ c. search needs)
     (λ c κs. search needs)
-    (λ c κs. search (accepted-length, needs))
+    (λ c. search needs)
+    rest
     (λ c. search needs)
     stores
     (λ c. search needs)

@@ -27,6 +27,34 @@ functions! {
     "vcpu_set_read_intercept" vcpu_set_read_intercept(*mut u8, usize, u32, u8);
     "vcpu_set_write_intercept" vcpu_set_write_intercept(*mut u8, usize, u32, u8);
     "vcpu_set_msr_intercept_of_range" vcpu_set_msr_intercept_of_range(*mut u8, usize, u32, u8);
+    // record, I/O A, I/O B, MSR frame
+    "vcpu_new" vcpu_new(*mut u8, usize, *mut u8, usize, *mut u8, usize, *mut u8, usize);
+    // record, arguments, I/O A, I/O B, MSR frame
+    "vcpu_setup" vcpu_setup(*mut u8, usize, *const u8, usize, *mut u8, usize, *mut u8, usize, *mut u8, usize);
+    // record, vector, code given, code
+    "vcpu_queue_event" vcpu_queue_event(*mut u8, usize, u8, u8, u32);
+    // record, vector
+    "vcpu_inject_interrupt" vcpu_inject_interrupt(*mut u8, usize, u64);
+    // record, host stack, resumed, event
+    "vcpu_entry" vcpu_entry(*mut u8, usize, u64, *mut u8, *mut u8);
+    // record, report, eight words of answer
+    "vcpu_exit_report" vcpu_exit_report(*mut u8, usize, *const u8, usize, *mut u64);
+    // record, value
+    "vcpu_apic_value" vcpu_apic_value(*mut u8, usize, u64);
+    // record, encoding, value
+    "vcpu_read_field" vcpu_read_field(*const u8, usize, u64, *mut u64);
+    "vcpu_write_field" vcpu_write_field(*mut u8, usize, u64, u64);
+    // record, index, value
+    "vcpu_get_reg_of_index" vcpu_get_reg_of_index(*const u8, usize, u64, *mut u64);
+    "vcpu_set_reg_of_index" vcpu_set_reg_of_index(*mut u8, usize, u64, u64);
+    // record, phase, launched, waiting, entries, held
+    "vcpu_get_counts" vcpu_get_counts(*const u8, usize, *mut u8, *mut u8, *mut u8, *mut u32, *mut u32);
+    // record, host EFER, mode
+    "vcpu_get_cpu_mode" vcpu_get_cpu_mode(*const u8, usize, u64, *mut u32);
+    // record, top entry, level, width, flags
+    "vcpu_get_ptw_info" vcpu_get_ptw_info(*const u8, usize, *mut u64, *mut u8, *mut u8, *mut u32);
+    // record, host EFER, address, linear address
+    "vcpu_gla2gva" vcpu_gla2gva(*const u8, usize, u64, u64, *mut u64);
 }
 
 /// The names of all functions that the archive exports.

@@ -3,15 +3,33 @@
 /// Differences that are printed in full for each line.
 const SHOWN: u64 = 5;
 
+/// One more than the greatest number of document 01.
+const NUMBERS: usize = 24;
+
 pub struct Tally {
     name: String,
     compared: u64,
     different: u64,
+    /// How often each number was expected, 0 where the call was accepted; for lines that tell it.
+    numbers: [u64; NUMBERS],
 }
 
 impl Tally {
     pub fn new(name: &str) -> Self {
-        Tally { name: name.to_string(), compared: 0, different: 0 }
+        Tally { name: name.to_string(), compared: 0, different: 0, numbers: [0; NUMBERS] }
+    }
+
+    /// One comparison of a call that is to answer this number.
+    pub fn compare_number(&mut self, number: u32, same: bool, what: impl FnOnce() -> String) {
+        self.numbers[number as usize] += 1;
+        self.compare(same, what);
+    }
+
+    /// The numbers that were expected, each with how often.
+    fn numbers(&self) -> String {
+        let counted = self.numbers.iter().enumerate().filter(|(_, times)| **times > 0);
+        let texts: Vec<String> = counted.map(|(number, times)| format!("{number}: {times}")).collect();
+        if texts.is_empty() { String::new() } else { format!(" ({})", texts.join(", ")) }
     }
 
     /// One comparison. `what` describes the call and both sides.
@@ -34,7 +52,7 @@ pub struct Totals {
 
 impl Totals {
     pub fn add(&mut self, tally: Tally) {
-        println!("{}: {} compared, {} differ", tally.name, tally.compared, tally.different);
+        println!("{}: {} compared{}, {} differ", tally.name, tally.compared, tally.numbers(), tally.different);
         self.compared += tally.compared;
         self.different += tally.different;
     }

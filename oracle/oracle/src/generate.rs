@@ -107,7 +107,7 @@ impl Random {
         }
     }
 
-    fn capabilities(&mut self) -> Capabilities {
+    pub fn capabilities(&mut self) -> Capabilities {
         let mut pairs = [0; 5];
         // At most one bad pair, so that the order of setup's tests does not matter.
         let bad = if self.chance(10) { self.below(5) as usize } else { 5 };
@@ -136,6 +136,24 @@ impl Random {
             cr0_fixed1,
             cr4_fixed0,
             cr4_fixed1,
+        }
+    }
+
+    /// A pair of a control word (pin, primary, secondary, exit, entry) changed so that setup can't have it: a bit to be set is not
+    /// allowed (8), one to be cleared is demanded (9, primary only), or allowed-0 has a bit that allowed-1 lacks (6).
+    pub fn spoiled_pair(&mut self, word: usize, pair: u64) -> u64 {
+        let mut one_of = |mask: u32| {
+            let bits: Vec<u64> = (0..32).map(|bit| 1 << bit).filter(|bit| mask as u64 & bit != 0).collect();
+            self.pick(&bits)
+        };
+        let (set, any) = (one_of(SET[word]), one_of(u32::MAX));
+        match self.below(3) {
+            0 if CLEAR[word] != 0 => {
+                let clear = 1 << self.pick(&[15, 16, 19, 20]);
+                pair | clear | clear << 32
+            }
+            1 => pair & !(any << 32) | any,
+            _ => pair & !(set | set << 32),
         }
     }
 

@@ -4,9 +4,11 @@
 //! [`Failure`]; the state is then as the original left it. Where a refused call is to change nothing,
 //! use [`Oracle::attempt`].
 
+pub mod blocks;
 pub mod calls;
 pub mod generate;
 pub mod leaves;
+pub mod record;
 mod refusal;
 pub mod samples;
 mod state;
@@ -265,6 +267,16 @@ impl Oracle {
         })
     }
 
+    /// Any place of the register file, the unused one too.
+    pub fn store_register(&mut self, index: usize, value: u64) {
+        access::registers_mut(self.vcpu_mut())[index] = value;
+    }
+
+    /// The capability words that reports are judged by, as setup's arguments have them.
+    pub fn store_capabilities(&mut self, capabilities: &Capabilities) {
+        capabilities.load(&mut self.machine)
+    }
+
     pub fn set_gpr(&mut self, index: u64, value: u64) -> Outcome<()> {
         self.inside(|vcpu| {
             access::set_gpr(vcpu, index, value);
@@ -402,11 +414,22 @@ impl Oracle {
 
     pub fn restore(&mut self, saved: &Saved) {
         self.machine.clone_from(&saved.machine);
-        *access::registers_mut(self.vcpu_mut()) = saved.registers;
-        access::set_launched(self.vcpu_mut(), saved.launched);
-        *access::events_mut(self.vcpu_mut()) = saved.events.iter().copied().collect();
-        for (frame, saved) in self.frames_mut().into_iter().zip(&saved.frames) {
-            *frame = *saved;
+        self.restore_vcpu(saved.registers, saved.launched, &saved.events, &saved.frames);
+    }
+
+    /// All that is not in the machine's arrays.
+    fn restore_vcpu(
+        &mut self,
+        registers: [u64; 16],
+        launched: bool,
+        events: &[Event],
+        frames: &[[u8; FRAME_BYTES]; 3],
+    ) {
+        *access::registers_mut(self.vcpu_mut()) = registers;
+        access::set_launched(self.vcpu_mut(), launched);
+        *access::events_mut(self.vcpu_mut()) = events.iter().copied().collect();
+        for (frame, bytes) in self.frames_mut().into_iter().zip(frames) {
+            *frame = *bytes;
         }
     }
 

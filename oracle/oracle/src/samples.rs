@@ -32,6 +32,28 @@ pub fn usual_setup() -> Setup {
     }
 }
 
+/// Capability words of the kind that processors report, with these secondary controls and these bits of CR4.
+fn processor(secondary: u64, cr4_fixed1: u64) -> Capabilities {
+    let (exit, entry) = (0x01FF_FFFF_0003_6DFB, 0x0003_FFFF_0000_11FB);
+    Capabilities {
+        pairs: [0x7F_0000_0016, 0xFFF9_FFFE_0400_6172, secondary << 32, exit, entry],
+        plain: [0x7F_0000_0016, 0xFFF9_FFFE_0401_E172, exit | 4, entry | 4],
+        cr0_fixed0: 0x8000_0021,
+        cr0_fixed1: 0xFFFF_FFFF,
+        cr4_fixed0: 0x2000,
+        cr4_fixed1,
+    }
+}
+
+/// With few secondary controls, with many, with some; and one that fixes every bit that setup does not need open.
+pub fn processors() -> [Capabilities; 4] {
+    let strict = Capabilities {
+        pairs: [0x1F_0000_001F, 0x9600_6172_9600_6172, 0x10_108A_0000_0082, 0x3F_EFFF_003F_EFFF, 0xD1FF_0000_D1FF],
+        ..processor(0x10_108A, 0x2000)
+    };
+    [processor(0xAA, 0x27FF), processor(0x5F_BCFF, 0x37_67FF), processor(0x10_1FEA, 0x17_67FF), strict]
+}
+
 pub fn ready() -> Oracle {
     let mut oracle = Oracle::new();
     oracle.setup(&usual_setup()).expect("setup");

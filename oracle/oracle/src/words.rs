@@ -76,6 +76,33 @@ pub struct Capabilities {
     pub cr4_fixed1: u64,
 }
 
+impl Capabilities {
+    /// CR0 fixed-0 and fixed-1, CR4 fixed-0 and fixed-1.
+    pub fn fixed(&self) -> [u64; 4] {
+        [self.cr0_fixed0, self.cr0_fixed1, self.cr4_fixed0, self.cr4_fixed1]
+    }
+
+    /// Document 01's 6 at setup: a bit that must be 1 and may not be.
+    pub fn inconsistent(&self) -> bool {
+        let in_pair = |pair: &u64| pair & !(pair >> 32) & 0xFFFF_FFFF != 0;
+        let in_fixed = |fixed: &[u64]| fixed[0] & !fixed[1] != 0;
+        self.pairs.iter().any(in_pair) || self.fixed().chunks(2).any(in_fixed)
+    }
+
+    /// Put the words into the MSRs that the original reads.
+    pub(crate) fn load(&self, m: &mut Machine) {
+        for (msr, pair) in [0x48D, 0x48E, 0x48B, 0x48F, 0x490].into_iter().zip(self.pairs) {
+            m.set_msr(msr, pair);
+        }
+        for (msr, word) in (0x481..).zip(self.plain) {
+            m.set_msr(msr, word);
+        }
+        for (msr, word) in (0x486..).zip(self.fixed()) {
+            m.set_msr(msr, word);
+        }
+    }
+}
+
 #[derive(Clone, Debug, Default, PartialEq, Eq)]
 pub struct Setup {
     pub host: HostWords,
@@ -94,17 +121,7 @@ impl Setup {
     /// Put the words into the arrays that the original reads.
     pub(crate) fn load(&self, m: &mut Machine) {
         let host = &self.host;
-        let caps = &self.capabilities;
-        for (msr, pair) in [0x48D, 0x48E, 0x48B, 0x48F, 0x490].into_iter().zip(caps.pairs) {
-            m.set_msr(msr, pair);
-        }
-        for (msr, word) in (0x481..).zip(caps.plain) {
-            m.set_msr(msr, word);
-        }
-        let fixed = [caps.cr0_fixed0, caps.cr0_fixed1, caps.cr4_fixed0, caps.cr4_fixed1];
-        for (msr, word) in (0x486..).zip(fixed) {
-            m.set_msr(msr, word);
-        }
+        self.capabilities.load(m);
         // The original reads the one PAT register twice: for the host, then for the guest.
         m.pat_reads = vec![host.pat, self.guest_pat];
         m.set_msr(MSR_EFER, host.efer);

@@ -40,7 +40,7 @@ fn fields(oracle: &mut Oracle, encodings: &[u32]) -> String {
     encodings.iter().map(one).collect::<Vec<_>>().join(", ")
 }
 
-const DIFFERENCES: [Difference; 26] = [
+const DIFFERENCES: [Difference; 27] = [
     Difference {
         name: "bitmap length",
         input: "port edit, port 0x2000, count 1",
@@ -272,6 +272,21 @@ const DIFFERENCES: [Difference; 26] = [
             oracle.enter(0).expect("entry");
             let report = report(&mut oracle, 70);
             format!("{}; {}", exit_with(65, |_| ()).0, failure(oracle.exit(&report)))
+        },
+    },
+    Difference {
+        name: "entry pair that contradicts itself",
+        input: "exit report, move of 0x80000001 to CR0, EFER 0x100, kept entry pair 1 and 0x200, which no setup leaves",
+        document: "Nothing: only allowed-1 of bit 9 is judged",
+        original: || {
+            let mut oracle = ready();
+            let mut capabilities = usual_setup().capabilities;
+            capabilities.pairs[4] = 0x200 << 32 | 1;
+            oracle.store_capabilities(&capabilities);
+            let mut report = report(&mut oracle, 28);
+            (report.efer, report.registers[0]) = (0x100, 0x8000_0001);
+            oracle.enter(0).expect("entry");
+            failure(oracle.exit(&report))
         },
     },
     Difference {

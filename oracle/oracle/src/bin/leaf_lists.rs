@@ -5,13 +5,16 @@
 //!
 //! Equal seeds give equal bytes. No input file is longer than 65,536 bytes.
 
+#[path = "lists/setup.rs"]
+mod setup;
+
 use oracle::generate::Random;
 use oracle::leaves;
 use oracle::*;
 use std::fmt::Display;
 use std::path::Path;
 
-const LISTS: [(&str, fn(&mut Random) -> List); 19] = [
+const LISTS: [(&str, fn(&mut Random) -> List); 20] = [
     ("set_control", set_control),
     ("vectors", vectors),
     ("inject_event", inject_event),
@@ -30,6 +33,7 @@ const LISTS: [(&str, fn(&mut Random) -> List); 19] = [
     ("get_cpu_mode", get_cpu_mode),
     ("get_ptw_info", get_ptw_info),
     ("gla2gva", gla2gva),
+    ("setup", setup::list),
     ("casesheet", casesheet),
 ];
 

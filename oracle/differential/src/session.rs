@@ -1,0 +1,248 @@
+//! Sequences of the calls on a session: each call on the port's record and on the original in the same state. The number, the
+//! results and every byte of the record are compared after each call: all 154 fields, registers, launched flag, waiting events, and
+//! what document 01 adds (phase, counts, capability words).
+//!
+//! Where the original can't be asked (`calls::outside`), the port must refuse with document 01's number and change nothing. These are
+//! counted on lines of their own.
+
+use crate::archive;
+use crate::buffer::Buffer;
+use crate::calls::{self, Call, NAMES, Reply};
+use crate::choose;
+use crate::report;
+use crate::tally::{Tally, Totals};
+use oracle::generate::Random;
+use oracle::record::{self, LENGTH, Paper};
+use oracle::{FRAME_BYTES, Oracle};
+
+/// A sequence starts anew with another state after so many calls.
+const CALLS: u64 = 100;
+
+/// The lines of the functions, in the order of `NAMES`.
+pub struct Lines {
+    inside: Vec<Tally>,
+    outside: Vec<Tally>,
+}
+
+impl Lines {
+    fn new() -> Self {
+        Lines {
+            inside: NAMES.iter().map(|name| Tally::new(name)).collect(),
+            outside: NAMES.iter().map(|name| Tally::new(&format!("{name}, refusals (document 01)"))).collect(),
+        }
+    }
+
+    fn add_to(self, totals: &mut Totals) {
+        self.inside.into_iter().zip(self.outside).for_each(|(inside, outside)| {
+            totals.add(inside);
+            totals.add(outside);
+        });
+    }
+}
+
+/// The original and our record, in the same state.
+pub struct Session {
+    pub oracle: Oracle,
+    pub paper: Paper,
+    pub ours: Buffer,
+    /// For records that are none: room for a wrong length.
+    broken: Buffer,
+}
+
+impl Session {
+    pub fn new() -> Self {
+        let mut session = Session {
+            oracle: Oracle::new(),
+            paper: Paper::default(),
+            ours: Buffer::new(LENGTH),
+            broken: Buffer::new(2 * LENGTH),
+        };
+        session.place();
+        session
+    }
+
+    /// Brings our record to where the original is.
+    pub fn place(&mut self) {
+        let image = record::image(&self.oracle, &self.paper);
+        self.ours.content_mut().copy_from_slice(&image);
+    }
+
+    /// A state to start from: what the original's setup gives, or any.
+    pub fn start(&mut self, random: &mut Random) {
+        if random.chance(50) {
+            self.start_new();
+            self.set_up(random);
+        } else {
+            self.oracle.put(&choose::state(random));
+            self.paper = choose::paper(random);
+            self.oracle.store_capabilities(&self.paper.kept);
+        }
+        self.place();
+    }
+
+    pub fn start_new(&mut self) {
+        *self = Session::new();
+    }
+
+    fn set_up(&mut self, random: &mut Random) {
+        let setup = random.setup();
+        if self.oracle.attempt(|oracle| oracle.setup(&setup)).is_ok() {
+            self.paper.phase = record::READY;
+            self.paper.kept = setup.capabilities;
+        }
+    }
+
+    /// Compares our record and the replies, and goes on from equal bytes.
+    pub fn check(&mut self, tally: &mut Tally, expected: Reply, reply: Reply, what: impl FnOnce() -> String) {
+        let image = record::image(&self.oracle, &self.paper);
+        let bytes_same = self.ours.content() == image && self.ours.margins_intact();
+        tally.compare_number(expected.number, bytes_same && expected == reply, || {
+            let differences = record::differences(self.ours.content(), &image);
+            format!("{}: expected {}, port {}; {differences:?}", what(), expected.text(), reply.text())
+        });
+        if !bytes_same {
+            self.ours = Buffer::new(LENGTH);
+            self.place();
+        }
+    }
+
+    /// One call on both sides.
+    fn call(&mut self, lines: &mut Lines, which: usize, call: Call) {
+        let (phase, waiting) = (self.paper.phase, self.oracle.events().len());
+        let (tally, expected) = match calls::outside(call, self.ours.content(), LENGTH) {
+            Some(number) => (&mut lines.outside[which], Reply::refused(number)),
+            None => (&mut lines.inside[which], calls::original(call, &mut self.oracle, &mut self.paper)),
+        };
+        let reply = calls::port(call, self.ours.pointer(), LENGTH);
+        self.check(tally, expected, reply, || format!("{call:x?} in phase {phase}, {waiting} events waiting"));
+    }
+
+    /// A call on bytes that are no record.
+    fn call_on_broken(&mut self, random: &mut Random, tally: &mut Tally, call: Call) {
+        self.broken.content_mut()[..LENGTH].copy_from_slice(self.ours.content());
+        let length = choose::breakage(random, self.broken.content_mut());
+        let before = self.broken.content().to_vec();
+        let expected = Reply::refused(calls::outside(call, &before, length).expect("no record"));
+        let reply = calls::port(call, self.broken.pointer(), length);
+        let same = self.broken.content() == before && self.broken.margins_intact() && reply == expected;
+        tally.compare_number(expected.number, same, || {
+            let differences = record::differences(self.broken.content(), &before);
+            let head = &before[..10];
+            format!(
+                "{call:x?} on no record, length {length}, first bytes {head:x?}: port {}; {differences:?}",
+                reply.text()
+            )
+        });
+    }
+
+    fn step(&mut self, random: &mut Random, lines: &mut Lines, reports: &mut Tally) {
+        let which = random.below(NAMES.len() as u64) as usize;
+        let call = choose::call(random, which);
+        self.prepare(random, lines, reports, call);
+        if random.chance(6) {
+            self.call_on_broken(random, &mut lines.outside[which], call);
+        } else {
+            self.call(lines, which, call);
+        }
+    }
+
+    /// Mostly brings the session to a phase in which the call is accepted; now and then to any.
+    fn prepare(&mut self, random: &mut Random, lines: &mut Lines, reports: &mut Tally, call: Call) {
+        if random.chance(8) {
+            return self.put_phase(random.below(record::ENDED as u64 + 1) as u8);
+        }
+        match call {
+            Call::Entry { .. } => self.make_ready(random, lines, reports),
+            Call::ApicValue { .. } => self.put_phase(record::WAITING_PHASE),
+            Call::QueueEvent { .. } | Call::InjectInterrupt { .. } if self.paper.phase == record::ENDED => {
+                self.put_phase(random.below(record::ENDED as u64) as u8)
+            }
+            _ => (),
+        }
+    }
+
+    /// From running by a report, from waiting by a value, else by the record's byte.
+    fn make_ready(&mut self, random: &mut Random, lines: &mut Lines, reports: &mut Tally) {
+        if self.paper.phase == record::RUNNING {
+            report::step(self, random, reports);
+        }
+        if self.paper.phase == record::WAITING_PHASE {
+            self.call(lines, 3, Call::ApicValue { value: random.word() });
+        }
+        self.put_phase(record::READY);
+    }
+
+    pub fn put_phase(&mut self, phase: u8) {
+        self.paper.phase = phase;
+        self.ours.content_mut()[record::PHASE] = phase;
+    }
+}
+
+/// Calls until each function has about as many as `cases`.
+pub fn run(random: &mut Random, cases: u64, totals: &mut Totals) {
+    let mut lines = Lines::new();
+    let mut reports = Tally::new("vcpu_exit_report, between other calls");
+    let mut session = Session::new();
+    for i in 0..cases * NAMES.len() as u64 {
+        if i % CALLS == 0 {
+            session.start(random);
+        }
+        session.step(random, &mut lines, &mut reports);
+    }
+    lines.add_to(totals);
+    if archive::vcpu_exit_report().is_some() {
+        totals.add(reports);
+    }
+}
+
+/// `vcpu_new`, on buffers of any bytes: the record and the frames of a new vCPU of the original.
+pub fn run_new(random: &mut Random, cases: u64, totals: &mut Totals) {
+    let Some(vcpu_new) = archive::vcpu_new() else { return };
+    let mut tally = Tally::new("vcpu_new");
+    let mut refused = Tally::new("vcpu_new, refusals (document 01)");
+    let mut buffers = [LENGTH, FRAME_BYTES, FRAME_BYTES, FRAME_BYTES].map(|length| Buffer::new(2 * length));
+    for _ in 0..cases {
+        let lengths = lengths_of_new(random);
+        let wrong = lengths != [LENGTH, FRAME_BYTES, FRAME_BYTES, FRAME_BYTES];
+        fill(random, &mut buffers);
+        let mut expected: Vec<Vec<u8>> = buffers.iter().map(|buffer| buffer.content().to_vec()).collect();
+        if !wrong {
+            let oracle = Oracle::new();
+            expected[0][..LENGTH].copy_from_slice(&record::image(&oracle, &Paper::default()));
+            for (bytes, frame) in expected[1..].iter_mut().zip(oracle.frames()) {
+                bytes[..FRAME_BYTES].copy_from_slice(frame);
+            }
+        }
+        let number = if wrong { calls::BYTES_REFUSED } else { 0 };
+        let [r, a, b, m] = buffers.each_mut().map(|buffer| buffer.pointer());
+        let answer = unsafe { vcpu_new(r, lengths[0], a, lengths[1], b, lengths[2], m, lengths[3]) };
+        let same = buffers.iter().zip(&expected).all(|(ours, bytes)| ours.content() == bytes && ours.margins_intact());
+        let tally = if wrong { &mut refused } else { &mut tally };
+        tally.compare_number(number, same && answer == number, || {
+            format!("lengths {lengths:?}: expected {number}, port {answer}, bytes as expected: {same}")
+        });
+    }
+    totals.add(tally);
+    totals.add(refused);
+}
+
+fn lengths_of_new(random: &mut Random) -> [usize; 4] {
+    let mut lengths = [LENGTH, FRAME_BYTES, FRAME_BYTES, FRAME_BYTES];
+    if random.chance(10) {
+        let i = random.below(4) as usize;
+        lengths[i] = random.pick(&[0, 1, lengths[i] - 1, lengths[i] + 1, 2 * lengths[i]]);
+    }
+    lengths
+}
+
+/// Bytes that are not 0, and a few of any kind.
+fn fill(random: &mut Random, buffers: &mut [Buffer; 4]) {
+    let byte = random.next() as u8 | 1;
+    for buffer in buffers {
+        buffer.content_mut().fill(byte);
+        for _ in 0..16 {
+            let at = random.below(buffer.content().len() as u64) as usize;
+            buffer.content_mut()[at] = random.next() as u8;
+        }
+    }
+}

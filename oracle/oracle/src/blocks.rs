@@ -1,0 +1,107 @@
+//! The byte blocks of the C interface: setup's arguments and the exit report. Numbers stand one after the other, least
+//! significant byte first, with nothing between them.
+
+use crate::{Capabilities, HostWords, Report, Setup};
+
+/// How many numbers setup takes.
+pub const SETUP_NUMBERS: usize = 40;
+/// Their widths in bytes: 18 host words, entry, guest PAT, four addresses, 13 capability MSRs, three yes/no bytes.
+pub const SETUP_WIDTHS: [usize; SETUP_NUMBERS] = [
+    8, 8, 8, 8, 8, 2, 2, 2, 2, 2, 2, 8, 8, 2, 8, 8, 8, 8, // host
+    8, 8, // entry, guest PAT
+    8, 8, 8, 8, // EPT root, I/O A, I/O B, MSR
+    8, 8, 8, 8, 8, 8, 8, 8, 8, 8, 8, 8, 8, // MSRs
+    1, 1, 1, // RDTSCP, INVPCID, XSAVES
+];
+pub const SETUP_BYTES: usize = 257;
+/// Where the yes/no bytes stand.
+pub const SETUP_FLAGS: usize = SETUP_BYTES - 3;
+
+/// The numbers, each in its width.
+fn block(numbers: impl IntoIterator<Item = (u64, usize)>) -> Vec<u8> {
+    let bytes = |(number, width): (u64, usize)| number.to_le_bytes().into_iter().take(width);
+    numbers.into_iter().flat_map(bytes).collect()
+}
+
+impl Setup {
+    /// The numbers in the order of the block: the host words as `setup_vmcs_host` has them, the MSRs by ascending number.
+    pub fn numbers(&self) -> [u64; SETUP_NUMBERS] {
+        let h = &self.host;
+        let c = &self.capabilities;
+        let [pin, primary, secondary, exit, entry] = c.pairs;
+        let mut numbers = vec![h.pat, h.efer, h.cr0, h.cr3, h.cr4];
+        numbers.extend([h.es, h.cs, h.ss, h.ds, h.fs, h.gs].map(u64::from));
+        numbers.extend([h.fs_base, h.gs_base, h.tr as u64, h.tr_base, h.gdtr_base, h.idtr_base, h.rip]);
+        numbers.extend([self.entry, self.guest_pat, self.ept_root]);
+        numbers.extend(self.frames);
+        numbers.extend(c.plain);
+        numbers.extend(c.fixed());
+        numbers.extend([secondary, pin, primary, exit, entry]);
+        numbers.extend([self.rdtscp, self.invpcid, self.xsaves].map(u64::from));
+        numbers.try_into().expect("as many numbers as setup takes")
+    }
+
+    /// The setup of these numbers, each cut to its width; a yes/no number is yes if it is 1.
+    pub fn of_numbers(numbers: &[u64; SETUP_NUMBERS]) -> Setup {
+        let n = numbers;
+        let short = |i: usize| n[i] as u16;
+        Setup {
+            host: HostWords {
+                pat: n[0],
+                efer: n[1],
+                cr0: n[2],
+                cr3: n[3],
+                cr4: n[4],
+                es: short(5),
+                cs: short(6),
+                ss: short(7),
+                ds: short(8),
+                fs: short(9),
+                gs: short(10),
+                fs_base: n[11],
+                gs_base: n[12],
+                tr: short(13),
+                tr_base: n[14],
+                gdtr_base: n[15],
+                idtr_base: n[16],
+                rip: n[17],
+            },
+            entry: n[18],
+            guest_pat: n[19],
+            ept_root: n[20],
+            frames: [n[21], n[22], n[23]],
+            capabilities: Capabilities {
+                plain: [n[24], n[25], n[26], n[27]],
+                cr0_fixed0: n[28],
+                cr0_fixed1: n[29],
+                cr4_fixed0: n[30],
+                cr4_fixed1: n[31],
+                pairs: [n[33], n[34], n[32], n[35], n[36]],
+            },
+            rdtscp: n[37] == 1,
+            invpcid: n[38] == 1,
+            xsaves: n[39] == 1,
+        }
+    }
+
+    /// The block of `vcpu_setup`.
+    pub fn block(&self) -> Vec<u8> {
+        block(self.numbers().into_iter().zip(SETUP_WIDTHS))
+    }
+}
+
+impl Report {
+    /// The block of `vcpu_exit_report`, in document 01's order.
+    pub fn block(&self) -> Vec<u8> {
+        let mut numbers: Vec<(u64, usize)> = Vec::new();
+        numbers.extend(self.registers.map(|word| (word, 8)));
+        numbers.extend([self.rip, self.rsp, self.rflags].map(|word| (word, 8)));
+        numbers.push((self.interruptibility as u64, 4));
+        numbers.extend([self.cr0, self.cr3, self.cr4, self.efer, self.cs_base].map(|word| (word, 8)));
+        numbers.extend([self.cs_rights, self.ss_rights, self.reason].map(|word| (word as u64, 4)));
+        numbers.push((self.qualification, 8));
+        let words = [self.instruction_length, self.interruption_info, self.interruption_error_code];
+        numbers.extend(words.into_iter().chain(self.cpuid).map(|word| (word as u64, 4)));
+        block(numbers)
+    }
+}

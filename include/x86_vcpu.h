@@ -50,8 +50,21 @@ extern "C" {
 #define VCPU_REFUSED_VECTOR 12
 /* Events: 64 events wait already. */
 #define VCPU_REFUSED_FULL 13
-/* Addresses: the sum passes 2^64 - 1. */
+/* Reports: no such reason (above 64, 35, 38, 42), or a failed entry of a reason other than 33, 34 and 41. */
+#define VCPU_REFUSED_REASON 14
+/* Reports: a bit of CR0 or CR4 that the host owns (guest/host mask) differs from the session's. */
+#define VCPU_REFUSED_OWNED_BITS 15
+/* Reports: an external interrupt whose information is not valid or has type 1. */
+#define VCPU_REFUSED_INTERRUPT 16
+/* Addresses, and RIP past an instruction: the sum passes 2^64 - 1. */
 #define VCPU_REFUSED_SUM 17
+/* Reports: an access to a control register that is no move to CR0 or CR4. */
+#define VCPU_REFUSED_CR_ACCESS 18
+/* Reports: XSETBV of XCR0, and of another register. */
+#define VCPU_REFUSED_XCR0 19
+#define VCPU_REFUSED_XCR 20
+/* Reports: an APIC access. */
+#define VCPU_REFUSED_APIC_ACCESS 21
 /* Entry: the count of entries is at its end, 2^32 - 1. */
 #define VCPU_REFUSED_COUNT 22
 /* Registers: index 4 (the place of RSP, which is a field) or above 15. */
@@ -191,6 +204,72 @@ uint32_t vcpu_inject_interrupt(uint8_t *record, size_t length, uint64_t vector);
  * Refusals: VCPU_REFUSED_BYTES, VCPU_REFUSED_PHASE (not ready), VCPU_REFUSED_COUNT.
  */
 uint32_t vcpu_entry(uint8_t *record, size_t length, uint64_t host_stack, uint8_t *resumed, uint8_t *event);
+
+/* ---- Exit reports ----
+ * What the processor tells after an exit is one block of bytes. Nothing lies between the parts, and numbers stand least significant byte first.
+ */
+
+/* The length in bytes of the block. */
+#define VCPU_REPORT_LENGTH 244
+
+/* Sixteen registers of 8 bytes, in the order of the record's. */
+#define VCPU_REPORT_REGS 0
+/* The guest's fields (8 bytes each; interruptibility and the access rights 4). */
+#define VCPU_REPORT_RIP 128
+#define VCPU_REPORT_RSP 136
+#define VCPU_REPORT_RFLAGS 144
+#define VCPU_REPORT_INTERRUPTIBILITY 152
+#define VCPU_REPORT_CR0 156
+#define VCPU_REPORT_CR3 164
+#define VCPU_REPORT_CR4 172
+#define VCPU_REPORT_EFER 180
+#define VCPU_REPORT_CS_BASE 188
+#define VCPU_REPORT_CS_RIGHTS 196
+#define VCPU_REPORT_SS_RIGHTS 200
+/* The exit words: full reason (4), qualification (8), instruction length, interruption information and its error code (4 each). */
+#define VCPU_REPORT_REASON 204
+#define VCPU_REPORT_QUALIFICATION 208
+#define VCPU_REPORT_INSTRUCTION_LENGTH 216
+#define VCPU_REPORT_INTERRUPTION 220
+#define VCPU_REPORT_ERROR_CODE 224
+/* What CPUID gives the host for the guest's EAX and ECX (4 each); it is looked at for a CPUID exit alone. */
+#define VCPU_REPORT_CPUID_EAX 228
+#define VCPU_REPORT_CPUID_EBX 232
+#define VCPU_REPORT_CPUID_ECX 236
+#define VCPU_REPORT_CPUID_EDX 240
+
+/* The answer is eight words: its number, then its values; words without a value are 0. */
+#define VCPU_ANSWER_WORDS 8
+
+/* The exit is dealt with: the next entry may follow. */
+#define VCPU_ANSWER_NOTHING 0
+/* VMCALL: RAX, then the arguments RDI, RSI, RDX, RCX, R8, R9. */
+#define VCPU_ANSWER_HYPERCALL 1
+/* IN: port, width in bytes (1, 2 or 4). The host brings the value to RAX with vcpu_set_reg_of_index. */
+#define VCPU_ANSWER_IO_READ 2
+/* OUT: port, width, data. */
+#define VCPU_ANSWER_IO_WRITE 3
+/* The guest turns its machine off. */
+#define VCPU_ANSWER_SYSTEM_DOWN 4
+/* An interrupt for the host: vector. */
+#define VCPU_ANSWER_EXTERNAL_INTERRUPT 5
+/* RDMSR: all of RCX. WRMSR: all of RCX, EDX:EAX. RIP is not advanced. */
+#define VCPU_ANSWER_SYS_REG_READ 6
+#define VCPU_ANSWER_SYS_REG_WRITE 7
+/* RDMSR of an APIC register: MSR. The session waits for vcpu_apic_value. WRMSR of one: MSR, EDX:EAX. */
+#define VCPU_ANSWER_APIC_READ 8
+#define VCPU_ANSWER_APIC_WRITE 9
+/* An exit that the core does not deal with. */
+#define VCPU_ANSWER_HALT 10
+/* The entry failed: 0. The session is ended. */
+#define VCPU_ANSWER_FAIL_ENTRY 11
+
+/*
+ * Takes what an exit reports and answers what the host is to do. The session is then ready, waiting or ended.
+ * Refusals: VCPU_REFUSED_BYTES (record or block), VCPU_REFUSED_PHASE (not running), VCPU_REFUSED_REASON, VCPU_REFUSED_OWNED_BITS,
+ * VCPU_REFUSED_INTERRUPT, VCPU_REFUSED_CR_ACCESS, VCPU_REFUSED_XCR, VCPU_REFUSED_XCR0, VCPU_REFUSED_APIC_ACCESS, VCPU_REFUSED_SUM, VCPU_REFUSED_SET.
+ */
+uint32_t vcpu_exit_report(uint8_t *record, size_t length, const uint8_t *block, size_t block_length, uint64_t *answer);
 
 /*
  * Brings the value of the APIC register that the guest reads: RAX gets its low half, RDX its high half, and the session is ready.

@@ -4,3 +4,4 @@ pub mod Cleared
 pub mod SetupCalls
 pub mod FieldCalls
 pub mod EntryRest
+pub mod ReportCalls

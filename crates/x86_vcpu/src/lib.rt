@@ -4,6 +4,7 @@ ghost use mathlib.Core.Path.{_≡_};
 ghost use Rattle.x86_vcpu.specs.Calls.{controlCall, portCall, msrCall, reads, writes, both};
 
 pub mod readings;
+pub mod report;
 pub mod session;
 pub mod setup;
 

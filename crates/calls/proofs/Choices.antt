@@ -1,0 +1,40 @@
+-- Choices by a test and by a decision. Assumes nothing.
+use mathlib.Core.Path.{_≡_, refl}
+use mathlib.Core.Bool.{Bool, true, false, cond, true≢false, false≢true, _||_}
+use Rattle.calls.specs.Reference.{choose}
+
+-- what holds of each choice, under its test, holds of the choice
+pub cond-all {ℓ} : {A : Type ℓ} (P : A → Type 0) (t : Bool) (a b : A) → (t ≡ true → P a) → (t ≡ false → P b) → P (cond t a b)
+cond-all P true a b p q = p refl
+cond-all P false a b p q = q refl
+
+pub impossible : {A : Type 0} → false ≡ true → A
+impossible e = absurd (false≢true e)
+
+-- a test and a decision of one thing choose alike
+pub chosen : {P A : Type 0} (d : Dec P) (b : Bool) (x y : A) → (b ≡ true → P) → (b ≡ false → P → ⊥) → cond b x y ≡ choose d x y
+chosen (yes p) true x y f g = refl
+chosen (yes p) false x y f g = absurd (g refl p)
+chosen (no n) true x y f g = absurd (n (f refl))
+chosen (no n) false x y f g = refl
+
+pub choose-yes : {P A : Type 0} (d : Dec P) (x y : A) → P → choose d x y ≡ x
+choose-yes (yes p) x y h = refl
+choose-yes (no n) x y h = absurd (n h)
+
+pub choose-no : {P A : Type 0} (d : Dec P) (x y : A) → (P → ⊥) → choose d x y ≡ y
+choose-no (yes p) x y h = absurd (h p)
+choose-no (no n) x y h = refl
+
+pub choose-all : {P A : Type 0} (Q : A → Type 0) (d : Dec P) (x y : A) → Q x → Q y → Q (choose d x y)
+choose-all Q (yes p) x y a b = a
+choose-all Q (no n) x y a b = b
+
+-- a function of a choice
+pub choose-ap : {P A B : Type 0} (f : A → B) (d : Dec P) (x y : A) → f (choose d x y) ≡ choose d (f x) (f y)
+choose-ap f (yes p) x y = refl
+choose-ap f (no n) x y = refl
+
+pub neither : (a b : Bool) → (a || b) ≡ false → (a ≡ false) × (b ≡ false)
+neither true b e = absurd (true≢false e)
+neither false b e = (refl, e)

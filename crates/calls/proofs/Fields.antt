@@ -1,0 +1,155 @@
+-- A write seen at its field and at another, the fields that an entry leaves alone, and values within their fields. Assumes nothing.
+use Prim.Native.Nat.{ℕ, zero, suc, _<_, _^_}
+use mathlib.Core.Path.{_≡_, refl, _∙_}
+use mathlib.Core.Bool.{Bool, true, false, cond, _&&_}
+use mathlib.Core.List.{List, [], _∷_}
+use lib.Dec.{T, ltb, ltb→lt, lit<}
+use lib.ListN.{set, length-set}
+use borrow.Author.Tests.{eq-eqb}
+use Rattle.bits.specs.LittleEndian.{Below}
+use Rattle.bits.proofs.WordLaws.{and-l, and-r}
+use Rattle.definitions.specs.Interruption.{hasErrorCode, isSoft, fromVector}
+use Rattle.vmcs.specs.Field.{Field, Word16, Word64, Word32, Natural, placeOf, sizeOf, widthBits, valueOf, put}
+use Rattle.vmcs.specs.Writes.{Write, _≔_, applied, sameField, Sized}
+use Rattle.vmcs.specs.declared.Vmcs.{Vmcs}
+use Rattle.vmcs.specs.Names.VmcsControl32 as VmcsControl32
+use Rattle.vmcs.specs.Names.VmcsHostNW as VmcsHostNW
+use Rattle.vmcs.specs.Names.VmcsReadOnly32 as VmcsReadOnly32
+use Rattle.vmcs.proofs.WriteLaws.{read-applied, sized-applied}
+use Rattle.vcpu_events.specs.Entry.{wordOf, codeOf, withCode, withLength, injected, withStack, withWindow}
+use Rattle.vcpu_events.specs.declared.Event as Core
+use Rattle.record.specs.Runs.{Numbers}
+use Rattle.record.specs.Fitting.{VmcsFits}
+use Rattle.calls.proofs.Choices.{cond-all}
+
+-- ---- one write
+
+put-sized : (v : Vmcs) (g : Field) (x : ℕ) → Sized v → Sized (put v g x)
+put-sized v g x s = sized-applied (g ≔ x ∷ []) v s
+
+pub put-own : (v : Vmcs) (g : Field) (x : ℕ) → Sized v → placeOf g < sizeOf g → valueOf (put v g x) g ≡ x
+put-own v g x s h = read-applied (g ≔ x ∷ []) v g s h ∙ rw (eq-eqb (sizeOf g) (sizeOf g) refl, eq-eqb (placeOf g) (placeOf g) refl)
+
+pub put-same : (v : Vmcs) (g f : Field) (x : ℕ) → Sized v → placeOf f < sizeOf f → sameField g f ≡ false → valueOf (put v g x) f ≡ valueOf v f
+put-same v g f x s h e = read-applied (g ≔ x ∷ []) v f s h ∙ rw e
+
+-- ---- what an entry does to the fields
+
+-- g is v but for the fields that are not f
+pub record Same (f : Field) (v g : Vmcs) : Type 0 where
+  pub sized : Sized g
+  pub value : valueOf g f ≡ valueOf v f
+
+module _ (f : Field) (h : placeOf f < sizeOf f) where
+  same-put : (v w : Vmcs) (g : Field) (x : ℕ) → sameField g f ≡ false → Same f v w → Same f v (put w g x)
+  same-put v w g x e s = record { sized = put-sized w g x (s .sized); value = put-same w g f x (s .sized) h e ∙ s .value }
+
+  pub same-stack : (v : Vmcs) (launched : Bool) (stack : ℕ) → Sized v → sameField VmcsHostNW.RSP f ≡ false → Same f v (withStack v launched stack)
+  unfolding withStack
+  same-stack v launched stack s e =
+      let z : Same f v v = record { sized = s; value = refl } in
+      cond-all (Same f v) launched _ _ (λ _. z) (λ _. same-put v v VmcsHostNW.RSP stack e z)
+
+  pub same-window : (v : Vmcs) → Sized v → sameField VmcsControl32.PRIMARY_PROCBASED_EXEC_CONTROLS f ≡ false → Same f v (withWindow v)
+  unfolding withWindow
+  same-window v s e = same-put v v VmcsControl32.PRIMARY_PROCBASED_EXEC_CONTROLS _ e (record { sized = s; value = refl })
+
+  pub same-code : (v : Vmcs) (e : Core.Event) → Sized v → sameField VmcsControl32.VMENTRY_EXCEPTION_ERR_CODE f ≡ false → Same f v (withCode v e)
+  unfolding withCode
+  same-code v e s a =
+      let z : Same f v v = record { sized = s; value = refl } in
+      cond-all (Same f v) (hasErrorCode (e .vector)) _ _ (λ _. same-put v v VmcsControl32.VMENTRY_EXCEPTION_ERR_CODE _ a z) (λ _. z)
+
+  pub same-length : (v w : Vmcs) (e : Core.Event) → sameField VmcsControl32.VMENTRY_INSTRUCTION_LEN f ≡ false → Same f v w → Same f v (withLength w e)
+  unfolding withLength
+  same-length v w e a z = cond-all (Same f v) (isSoft (fromVector (e .vector))) _ _ (λ _. same-put v w VmcsControl32.VMENTRY_INSTRUCTION_LEN _ a z) (λ _. z)
+
+  pub same-injected : (v : Vmcs) (e : Core.Event) → Sized v → sameField VmcsControl32.VMENTRY_EXCEPTION_ERR_CODE f ≡ false
+      → sameField VmcsControl32.VMENTRY_INSTRUCTION_LEN f ≡ false
+      → sameField VmcsControl32.VMENTRY_INTERRUPTION_INFO_FIELD f ≡ false → Same f v (injected v e)
+  unfolding injected
+  same-injected v e s a b c = same-put v _ VmcsControl32.VMENTRY_INTERRUPTION_INFO_FIELD _ c (same-length v (withCode v e) e b (same-code v e s a))
+
+-- ---- what an injection leaves
+
+abbrev info : Field
+info = VmcsControl32.VMENTRY_INTERRUPTION_INFO_FIELD
+
+module _ (v : Vmcs) (e : Core.Event) (s : Sized v) where
+  coded-sized : Sized (withCode v e)
+  coded-sized = same-code VmcsReadOnly32.VMEXIT_INSTRUCTION_LEN (lit< tt) v e s refl .sized
+
+  parts-sized : Sized (withLength (withCode v e) e)
+  parts-sized = same-length VmcsReadOnly32.VMEXIT_INSTRUCTION_LEN (lit< tt) v (withCode v e) e refl
+      (same-code VmcsReadOnly32.VMEXIT_INSTRUCTION_LEN (lit< tt) v e s refl) .sized
+
+  pub injected-word : valueOf (injected v e) info ≡ wordOf e
+  unfolding injected
+  injected-word = put-own (withLength (withCode v e) e) info (wordOf e) parts-sized (lit< tt)
+
+  pub injected-code : hasErrorCode (e .vector) ≡ true
+      → valueOf (injected v e) VmcsControl32.VMENTRY_EXCEPTION_ERR_CODE ≡ cond (e .coded) (e .code) (valueOf v VmcsReadOnly32.VMEXIT_INTERRUPTION_ERR_CODE)
+  unfolding injected withCode codeOf
+  injected-code t =
+      let code = VmcsControl32.VMENTRY_EXCEPTION_ERR_CODE in
+      put-same (withLength (withCode v e) e) info code (wordOf e) parts-sized (lit< tt) refl
+      ∙ same-length code (lit< tt) (withCode v e) (withCode v e) e refl (record { sized = coded-sized; value = refl }) .value
+      ∙ rw t (put-own v code (cond (e .coded) (e .code) (valueOf v VmcsReadOnly32.VMEXIT_INTERRUPTION_ERR_CODE)) s (lit< tt))
+
+  pub injected-long : isSoft (fromVector (e .vector)) ≡ true
+      → valueOf (injected v e) VmcsControl32.VMENTRY_INSTRUCTION_LEN ≡ valueOf v VmcsReadOnly32.VMEXIT_INSTRUCTION_LEN
+  unfolding injected withLength
+  injected-long t =
+      let long = VmcsControl32.VMENTRY_INSTRUCTION_LEN in
+      put-same (withLength (withCode v e) e) info long (wordOf e) parts-sized (lit< tt) refl
+      ∙ rw t (put-own (withCode v e) long (valueOf (withCode v e) VmcsReadOnly32.VMEXIT_INSTRUCTION_LEN) coded-sized (lit< tt))
+      ∙ same-code VmcsReadOnly32.VMEXIT_INSTRUCTION_LEN (lit< tt) v e s refl .value
+
+-- ---- values within their fields
+
+pub below-set : {m : ℕ} (l : List ℕ) (i x : ℕ) → Below m l → x < m → Below m (set l i x)
+below-set [] i x b h j = b j
+below-set (y ∷ l) zero x b h zero = h
+below-set (y ∷ l) zero x b h (suc j) = b (suc j)
+below-set (y ∷ l) (suc i) x b h zero = b 0
+below-set (y ∷ l) (suc i) x b h (suc j) = below-set l i x (λ k. b (suc k)) h j
+
+pub numbers-set : {n k : ℕ} (l : List ℕ) (i x : ℕ) → Numbers n k l → x < 256 ^ k → Numbers n k (set l i x)
+numbers-set l i x m h = record { sized = length-set l i x ∙ m .sized; below = below-set l i x (m .below) h }
+
+pub put-fits : (v : Vmcs) (g : Field) (x : ℕ) → VmcsFits v → x < 2 ^ widthBits g → VmcsFits (put v g x)
+put-fits v (Word16 k) x m h = record { w16 = numbers-set (v .w16) k x (m .w16) h; w32 = m .w32; w64 = m .w64; natural = m .natural }
+put-fits v (Word64 k) x m h = record { w16 = m .w16; w32 = m .w32; w64 = numbers-set (v .w64) k x (m .w64) h; natural = m .natural }
+put-fits v (Word32 k) x m h = record { w16 = m .w16; w32 = numbers-set (v .w32) k x (m .w32) h; w64 = m .w64; natural = m .natural }
+put-fits v (Natural k) x m h = record { w16 = m .w16; w32 = m .w32; w64 = m .w64; natural = numbers-set (v .natural) k x (m .natural) h }
+
+pub value-fits : (v : Vmcs) (g : Field) → VmcsFits v → valueOf v g < 2 ^ widthBits g
+value-fits v (Word16 k) m = m .w16 .below k
+value-fits v (Word64 k) m = m .w64 .below k
+value-fits v (Word32 k) m = m .w32 .below k
+value-fits v (Natural k) m = m .natural .below k
+
+-- each value fits its field
+abbrev pub AllFit : List Write → Type 0
+AllFit [] = Unit {0}
+AllFit (w ∷ ws) = (w .value < 2 ^ widthBits (w .field)) × AllFit ws
+
+infixr 40 _⊗_
+abbrev pub _⊗_ : {A B : Type 0} → A → B → A × B
+a ⊗ b = (a, b)
+
+-- a test of it, for writes of known numbers
+abbrev allFit : List Write → Bool
+allFit [] = true
+allFit (w ∷ ws) = ltb (w .value) (2 ^ widthBits (w .field)) && allFit ws
+
+pub all-fit : (ws : List Write) → T (allFit ws) → AllFit ws
+all-fit [] t = tt
+all-fit (w ∷ ws) t = (ltb→lt _ _ (and-l (ltb (w .value) (2 ^ widthBits (w .field))) (allFit ws) t), all-fit ws (and-r (ltb (w .value) (2 ^ widthBits (w .field))) (allFit ws) t))
+
+pub applied-fits : (ws : List Write) (v : Vmcs) → VmcsFits v → AllFit ws → VmcsFits (applied ws v)
+applied-fits [] v m a = m
+applied-fits (w ∷ ws) v m a = applied-fits ws (put v (w .field) (w .value)) (put-fits v (w .field) (w .value) m (a .0)) (a .1)
+
+pub fits-sized : (v : Vmcs) → VmcsFits v → Sized v
+fits-sized v m = record { w16 = m .w16 .sized; w32 = m .w32 .sized; w64 = m .w64 .sized; natural = m .natural .sized }

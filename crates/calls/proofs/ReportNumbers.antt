@@ -1,0 +1,320 @@
+-- A report is refused exactly where the reference's rules say, and what its words say is what the reference reads. Assumes nothing.
+use Prim.Native.Nat.{ℕ, _+_, _-_, _/_, _%_, _^_, _<_, _≤_}
+use mathlib.Core.Path.{_≡_, refl, sym, ap, _∙_, subst}
+use mathlib.Core.Bool.{Bool, true, false, cond, not, _&&_, _||_, true≢false, false≢true, and-true, and-false}
+use mathlib.Core.List.{List, [], _∷_}
+use mathlib.Core.Logic.{_⊎_, _≢_, inl, inr}
+use native.Mathlib.Decide.{ℕ-discrete}
+use native.Mathlib.Omega.{arith}
+use lib.Bits.{bitAnd}
+use lib.Dec.{T, eqb, leb, ltb, eqb→eq}
+use lib.ListN.{getD}
+use borrow.Author.Tests.{eqb-true, eqb-false, leb-true, leb-false, ltb-true, ltb-false, not-true, not-false, eq-eqb, le-leb, lt-leb}
+use Rattle.bits.specs.Words.{bit}
+use Rattle.bits.proofs.AllBelow.{at}
+use Rattle.bits.proofs.BitLaws.{bit-and, same-bits}
+use Rattle.bits.proofs.WordLaws.{is-true}
+use Rattle.regs.specs.Registers.{listOf}
+use Rattle.definitions.specs.Interruption.{typeNumber, typeNumbered, typeOf}
+use Rattle.vmcs.specs.Efer.{isLongMode, lacksIa32e, updateEfer}
+use Rattle.vmcs.specs.Field.{valueOf}
+use Rattle.vmcs.specs.Names.VmcsControl32 as VmcsControl32
+use Rattle.vmcs.specs.declared.controls.EferUpdate.{EferUpdate}
+use Rattle.vmcs.specs.declared.controls.Pair.{Pair}
+use Rattle.vcpu_session.specs.Session.{Lawful}
+use Rattle.vcpu_session.specs.declared.Session.{Session}
+use Rattle.vcpu_session.proofs.LawfulLaws.{of-lawful}
+use Rattle.vcpu_exit.specs.Reading.{isApic, registerOf, movedValue, isMoveTo, turnsPagingOn, advanceTo, advanceOf, pastEnd}
+use Rattle.vcpu_exit.specs.Refusal.{unknownReason, ownedBitsDiffer, noInterrupt, otherAccess, otherXcr, eferRefusal, entryPair, exitRefusal, reportRefusal}
+use Rattle.vcpu_exit.specs.declared.Report.{Report}
+use Rattle.vcpu_report.specs.ExitReport.{phaseAfter}
+use Rattle.calls.specs.Reference.{choose, both, either, Event, basicReason, ecxOf, NamesApic, namesApic, waits, Rule, by, Refuses, Agree, MovesTo, movedBy, advance, UnknownReason, SetsIa32e, exitRules, reportRules}
+use Rattle.calls.specs.Calls.{viewOf, guardedOf}
+use Rattle.calls.proofs.Choices.{chosen}
+
+-- ---- tests that tell
+
+-- the test is true exactly where C holds
+pub record Tells (t : Bool) (C : Type 0) : Type 0 where
+  pub yes-so : t ≡ true → C
+  pub not-so : t ≡ false → C → ⊥
+
+both-true : (a b : Bool) → (a && b) ≡ true → (a ≡ true) × (b ≡ true)
+both-true true b e = (refl, e)
+both-true false b e = absurd (false≢true e)
+
+one-true : (a b : Bool) → (a || b) ≡ true → (a ≡ true) ⊎ (b ≡ true)
+one-true true b e = inl refl
+one-true false b e = inr e
+
+one-false : (a b : Bool) → (a && b) ≡ false → (a ≡ false) ⊎ (b ≡ false)
+one-false true b e = inr e
+one-false false b e = inl refl
+
+both-false : (a b : Bool) → (a || b) ≡ false → (a ≡ false) × (b ≡ false)
+both-false true b e = absurd (true≢false e)
+both-false false b e = (refl, e)
+
+tells-eq : (a b : ℕ) → Tells (eqb a b) (a ≡ b)
+tells-eq a b = record { yes-so = eqb-true a b; not-so = eqb-false a b }
+
+tells-leb : (a b : ℕ) → Tells (leb a b) (a ≤ b)
+tells-leb a b = record { yes-so = leb-true a b; not-so = λ e h. omega (arith, leb-false a b e) }
+
+tells-ltb : (a b : ℕ) → Tells (ltb a b) (a < b)
+tells-ltb a b = record { yes-so = ltb-true a b; not-so = λ e h. omega (arith, ltb-false a b e) }
+
+tells-on : (b : Bool) → Tells b (b ≡ true)
+tells-on b = record { yes-so = λ e. e; not-so = λ e f. true≢false (sym f ∙ e) }
+
+tells-off : (b : Bool) → Tells (not b) (b ≡ false)
+tells-off b = record { yes-so = not-true b; not-so = λ e f. true≢false (sym (not-false b e) ∙ f) }
+
+tells-and : {s t : Bool} {C D : Type 0} → Tells s C → Tells t D → Tells (s && t) (C × D)
+tells-and {s} {t} p q =
+    record {
+      yes-so = λ e. let x = both-true s t e in (p .yes-so (x .0), q .yes-so (x .1));
+      not-so = λ e c. elim (one-false s t e) [ inl x ↦ p .not-so x (c .0) | inr y ↦ q .not-so y (c .1) ];
+    }
+
+tells-or : {s t : Bool} {C D : Type 0} → Tells s C → Tells t D → Tells (s || t) (C ⊎ D)
+tells-or {s} {t} p q =
+    record {
+      yes-so = λ e. elim (one-true s t e) [ inl x ↦ inl (p .yes-so x) | inr y ↦ inr (q .yes-so y) ];
+      not-so = λ e c. let x = both-false s t e in elim c [ inl a ↦ p .not-so (x .0) a | inr b ↦ q .not-so (x .1) b ];
+    }
+
+tells-not : {t : Bool} {C : Type 0} → Tells t C → Tells (not t) (C → ⊥)
+tells-not {t} p = record { yes-so = λ e. p .not-so (not-true t e); not-so = λ e c. c (p .yes-so (not-false t e)) }
+
+tells-as : {t : Bool} {C D : Type 0} → Tells t C → (C → D) → (D → C) → Tells t D
+tells-as p f g = record { yes-so = λ e. f (p .yes-so e); not-so = λ e d. p .not-so e (g d) }
+
+-- the same test
+tells-is : {s t : Bool} {C : Type 0} → s ≡ t → Tells t C → Tells s C
+tells-is e p = record { yes-so = λ x. p .yes-so (sym e ∙ x); not-so = λ x. p .not-so (sym e ∙ x) }
+
+-- a test and a decision of one thing choose alike
+picks : {A C : Type 0} {t : Bool} → Tells t C → (d : Dec C) (x y : A) → cond t x y ≡ choose d x y
+picks {t = t} p d x y = chosen d t x y (p .yes-so) (p .not-so)
+
+-- ---- what the words say
+
+apic-tells : (r : Report) → Tells (isApic (r .regs .rcx)) (NamesApic r)
+unfolding isApic
+apic-tells r = tells-and (tells-leb 0x800 (ecxOf r)) (tells-leb (ecxOf r) 0x8FF)
+
+pub phase-agrees : (r : Report) → phaseAfter r ≡ choose (waits r) 3 1
+unfolding phaseAfter
+phase-agrees r = join (eqb (basicReason r) 31) (isApic (r .regs .rcx)) ∙ picks (tells-and (tells-eq (basicReason r) 31) (apic-tells r)) (waits r) 3 1
+  where
+    join : (a b : Bool) → cond {A = ℕ} a (cond b 3 1) 1 ≡ cond (a && b) 3 1
+    join true b = refl
+    join false b = refl
+
+move-tells : (r : Report) (n : ℕ) → Tells (isMoveTo r n) (MovesTo n r)
+unfolding isMoveTo
+move-tells r n = tells-and (tells-eq (r .qualification / 2 ^ 4 % 4) 0) (tells-eq (r .qualification % 2 ^ 4) n)
+
+moved-agrees : (r : Report) → movedValue r ≡ movedBy r
+unfolding movedValue registerOf
+moved-agrees r =
+    let i = r .qualification / 2 ^ 8 % 2 ^ 4 in
+    picks (tells-eq i 4) (ℕ-discrete i 4) (r .rsp) (getD (listOf (r .regs)) i 0)
+
+advance-agrees : (r : Report) → advanceOf r ≡ advance r
+unfolding advanceTo
+advance-agrees r =
+    let n = basicReason r in
+    let last : cond {A = ℕ} ((eqb n 31 || eqb n 32) && isApic (r .regs .rcx)) 2 0 ≡ choose (both (either (ℕ-discrete n 31) (ℕ-discrete n 32)) (namesApic r)) 2 0
+    = picks (tells-and (tells-or (tells-eq n 31) (tells-eq n 32)) (apic-tells r)) (both (either (ℕ-discrete n 31) (ℕ-discrete n 32)) (namesApic r)) 2 0 in
+    ap (λ (x : ℕ). cond (eqb n 10) 2 (cond (eqb n 28) 3 (cond (eqb n 18 || eqb n 30) (r .length % 2 ^ 8) x))) last
+    ∙ ap (λ (x : ℕ). cond (eqb n 10) 2 (cond (eqb n 28) 3 x)) (picks (tells-or (tells-eq n 18) (tells-eq n 30))
+    (either (ℕ-discrete n 18) (ℕ-discrete n 30)) (r .length % 2 ^ 8) _)
+    ∙ ap (λ (x : ℕ). cond (eqb n 10) 2 x) (picks (tells-eq n 28) (ℕ-discrete n 28) 3 _)
+    ∙ picks (tells-eq n 10) (ℕ-discrete n 10) 2 _
+
+-- ---- 14
+
+unknown-tells : (r : Report) → Tells (unknownReason r) (UnknownReason r)
+unfolding unknownReason
+unknown-tells r =
+    let n = basicReason r in
+    let f = bit 31 (r .reason) in
+    tells-is
+    (rw (within n) (joined (ltb 64 n) (eqb n 35) (eqb n 38) (eqb n 42) f (eqb n 33) (eqb n 34) (eqb n 41)))
+    (tells-or (tells-ltb 64 n) (tells-or (tells-eq n 35) (tells-or (tells-eq n 38) (tells-or (tells-eq n 42)
+    (tells-as (tells-and (tells-on f) (tells-and (tells-not (tells-eq n 33)) (tells-and (tells-not (tells-eq n 34)) (tells-not (tells-eq n 41)))))
+    (λ x. (x .0, x .1 .0, x .1 .1 .0, x .1 .1 .1)) (λ x. (x .0, (x .1, (x .2, x .3)))))))))
+  where
+    within : (n : ℕ) → leb n 64 ≡ not (ltb 64 n)
+    within n = go (ltb 64 n) refl
+      where
+        go : (t : Bool) → ltb 64 n ≡ t → leb n 64 ≡ not t
+        go true e = lt-leb n 64 (ltb-true 64 n e)
+        go false e = le-leb n 64 (ltb-false 64 n e)
+
+    joined : (a b c d f x y z : Bool)
+        → (not (not a && not b && not c && not d) || (f && not (x || y || z))) ≡ (a || (b || (c || (d || (f && (not x && (not y && not z)))))))
+    joined true b c d f x y z = refl
+    joined false true c d f x y z = refl
+    joined false false true d f x y z = refl
+    joined false false false true f x y z = refl
+    joined false false false false false x y z = refl
+    joined false false false false true true y z = refl
+    joined false false false false true false true z = refl
+    joined false false false false true false false z = refl
+
+-- ---- 15
+
+-- a word under a mask
+under : (i a mask : ℕ) → T (bit i mask) → bit i (bitAnd a mask) ≡ bit i a
+under i a mask t = bit-and i a mask ∙ ap (λ (b : Bool). bit i a && b) (is-true _ t) ∙ and-true (bit i a)
+
+agree-tells : (mask a b : ℕ) → Tells (eqb (bitAnd a mask) (bitAnd b mask)) (Agree mask a b)
+agree-tells mask a b =
+    tells-as (tells-eq (bitAnd a mask) (bitAnd b mask)) (λ e i t. sym (under i a mask t) ∙ ap (bit i) e ∙ under i b mask t)
+    (λ h. same-bits (bitAnd a mask) (bitAnd b mask) (λ i. bit-and i a mask ∙ go i (bit i mask) refl (h i) ∙ sym (bit-and i b mask)))
+  where
+    go : (i : ℕ) (t : Bool) → bit i mask ≡ t → (T (bit i mask) → bit i a ≡ bit i b) → (bit i a && t) ≡ (bit i b && t)
+    go i true e h = ap (λ (x : Bool). x && true) (h (rw e tt))
+    go i false e h = and-false (bit i a) ∙ sym (and-false (bit i b))
+
+differ-tells : (s : Session) (r : Report)
+    → Tells (ownedBitsDiffer (s .vmcs) r) (Agree (guardedOf s .cr0mask) (r .cr0) (guardedOf s .cr0) × Agree (guardedOf s .cr4mask) (r .cr4)
+    (guardedOf s .cr4) → ⊥)
+unfolding ownedBitsDiffer
+differ-tells s r =
+    let g = guardedOf s in
+    tells-is (joined (eqb (bitAnd (r .cr0) (g .cr0mask)) (bitAnd (g .cr0) (g .cr0mask))) (eqb (bitAnd (r .cr4) (g .cr4mask)) (bitAnd (g .cr4) (g .cr4mask))))
+    (tells-not (tells-and (agree-tells (g .cr0mask) (r .cr0) (g .cr0)) (agree-tells (g .cr4mask) (r .cr4) (g .cr4))))
+  where
+    joined : (a b : Bool) → (not a || not b) ≡ not (a && b)
+    joined true b = refl
+    joined false b = refl
+
+-- ---- 16, 18, 20
+
+type-number : (n : ℕ) → n < 8 → typeNumber (typeNumbered n) ≡ n
+unfolding typeNumber
+type-number n h = eqb→eq _ _ (at (λ (k : ℕ). eqb (typeNumber (typeNumbered k)) k) 8 tt n h)
+
+interrupt-tells : (r : Report) → Tells (noInterrupt r) ((basicReason r ≡ 1) × ((bit 31 (r .interruption) ≡ false) ⊎ (r .interruption / 2 ^ 8 % 8 ≡ 1)))
+unfolding noInterrupt typeOf
+interrupt-tells r =
+    let k = r .interruption / 2 ^ 8 % 8 in
+    tells-and (tells-eq (basicReason r) 1)
+    (tells-or (tells-off (bit 31 (r .interruption))) (tells-is (ap (λ (n : ℕ). eqb n 1) (type-number k (omega arith))) (tells-eq k 1)))
+
+access-tells : (r : Report) → Tells (otherAccess r) ((basicReason r ≡ 28) × (MovesTo 0 r ⊎ MovesTo 4 r → ⊥))
+unfolding otherAccess
+access-tells r = tells-and (tells-eq (basicReason r) 28) (tells-not (tells-or (move-tells r 0) (move-tells r 4)))
+
+xcr-tells : (r : Report) → Tells (otherXcr r) ((basicReason r ≡ 55) × (ecxOf r ≢ 0))
+unfolding otherXcr
+xcr-tells r = tells-and (tells-eq (basicReason r) 55) (tells-not (tells-eq (ecxOf r) 0))
+
+-- ---- 17, 8
+
+end-tells : (r : Report) → Tells (pastEnd r) (2 ^ 64 ≤ r .rip + advance r)
+unfolding pastEnd
+end-tells r = tells-as (tells-is (ap (λ (n : ℕ). ltb (2 ^ 64 - 1) (r .rip + n)) (advance-agrees r)) (tells-ltb (2 ^ 64 - 1) (r .rip + advance r))) (λ h. h)
+    (λ h. h)
+
+clear-tells : (a : ℕ) → Tells (lacksIa32e a) (bit 9 a ≡ false)
+unfolding lacksIa32e
+clear-tells a = tells-is (flip (a / 2 ^ 9)) (tells-off (bit 9 a))
+  where
+    flip : (n : ℕ) → eqb (n % 2) 0 ≡ not (eqb (n % 2) 1)
+    flip n = go (eqb (n % 2) 1) refl
+      where
+        go : (t : Bool) → eqb (n % 2) 1 ≡ t → eqb (n % 2) 0 ≡ not t
+        go true e = rw (eqb-true (n % 2) 1 e)
+        go false e = eq-eqb (n % 2) 0 (let z = eqb-false (n % 2) 1 e in omega arith)
+
+long-tells : (r : Report) → Tells (isLongMode (r .efer)) ((bit 8 (r .efer) ≡ true) × (bit 10 (r .efer) ≡ true))
+unfolding isLongMode
+long-tells r = tells-and (tells-on (bit 8 (r .efer))) (tells-on (bit 10 (r .efer)))
+
+paging-tells : (r : Report) → Tells (turnsPagingOn r) (((basicReason r ≡ 28) × MovesTo 0 r) × (bit 31 (movedBy r) ≡ true))
+unfolding turnsPagingOn
+paging-tells r =
+    tells-and (tells-and (tells-eq (basicReason r) 28) (move-tells r 0)) (tells-is (ap (bit 31) (moved-agrees r)) (tells-on (bit 31 (movedBy r))))
+
+-- the three tests of 8, joined
+abbrev stuck : Pair → Report → Bool
+stuck pair r = turnsPagingOn r && (not (isLongMode (r .efer)) && lacksIa32e (pair .allowed1))
+
+stuck-tells : (pair : Pair) (r : Report) → Tells (stuck pair r) (SetsIa32e r × (bit 9 (pair .allowed1) ≡ false))
+stuck-tells pair r =
+    tells-as (tells-and (paging-tells r) (tells-and (tells-not (long-tells r)) (clear-tells (pair .allowed1))))
+    (λ x. ((x .0 .0 .0, x .0 .0 .1, x .0 .1, x .1 .0), x .1 .1)) (λ x. (((x .0 .0, x .0 .1), x .0 .2), (x .0 .3, x .1)))
+
+efer-number : (pair : Pair) (entry : ℕ) (r : Report) → eferRefusal pair entry r ≡ cond (stuck pair r) 8 0
+unfolding eferRefusal updateEfer
+efer-number pair entry r = go (turnsPagingOn r) (isLongMode (r .efer)) (lacksIa32e (pair .allowed1)) _ _ _ _ _ _
+  where
+    go : (a b c : Bool) (u v w x y z : ℕ)
+        → cond a (cond {A = EferUpdate} b (record { refusal = 0; efer = u; entry = v })
+        (cond c (record { refusal = 8; efer = w; entry = x }) (record { refusal = 0; efer = y; entry = z })) .refusal) 0
+        ≡ cond {A = ℕ} (a && (not b && c)) 8 0
+    go true true c u v w x y z = refl
+    go true false true u v w x y z = refl
+    go true false false u v w x y z = refl
+    go false b c u v w x y z = refl
+
+-- ---- the ladder
+
+rung : (t : Bool) (n m : ℕ) (C : Type 0) (rest : List Rule) → Tells t C → (t ≡ false → Refuses rest m) → Refuses (by n C ∷ rest) (cond t n m)
+rung true n m C rest p w = inl (p .yes-so refl, refl)
+rung false n m C rest p w = inr (p .not-so refl, w refl)
+
+module _ (j : List Event) (s : Session) (r : Report) (l : Lawful s) where
+  abbrev pair : Pair
+  pair = entryPair (s .capabilities)
+
+  abbrev entryWord : ℕ
+  entryWord = valueOf (s .vmcs) VmcsControl32.VMENTRY_CONTROLS
+
+  exit-refuses : Refuses (exitRules (viewOf j s) (guardedOf s) r) (cond (ownedBitsDiffer (s .vmcs) r) 15 (exitRefusal pair entryWord r))
+  unfolding exitRefusal
+  exit-refuses =
+      let g = guardedOf s in
+      let n = basicReason r in
+      let l8 = by 8 (SetsIa32e r × (bit 9 (pair .allowed1) ≡ false)) ∷ [] in
+      let n8 = eferRefusal pair entryWord r in
+      let l17 = by 17 (2 ^ 64 ≤ r .rip + advance r) ∷ l8 in
+      let n17 : ℕ = cond (pastEnd r) 17 n8 in
+      let l21 = by 21 (n ≡ 44) ∷ l17 in
+      let n21 : ℕ = cond (eqb n 44) 21 n17 in
+      let l19 = by 19 (n ≡ 55) ∷ l21 in
+      let n19 : ℕ = cond (eqb n 55) 19 n21 in
+      let l20 = by 20 ((n ≡ 55) × (ecxOf r ≢ 0)) ∷ l19 in
+      let n20 : ℕ = cond (otherXcr r) 20 n19 in
+      let l18 = by 18 ((n ≡ 28) × (MovesTo 0 r ⊎ MovesTo 4 r → ⊥)) ∷ l20 in
+      let n18 : ℕ = cond (otherAccess r) 18 n20 in
+      let l16 = by 16 ((n ≡ 1) × ((bit 31 (r .interruption) ≡ false) ⊎ (r .interruption / 2 ^ 8 % 8 ≡ 1))) ∷ l18 in
+      let n16 : ℕ = cond (noInterrupt r) 16 n18 in
+      rung (ownedBitsDiffer (s .vmcs) r) 15 n16 _ l16 (differ-tells s r)
+      (λ _. rung (noInterrupt r) 16 n18 _ l18 (interrupt-tells r)
+      (λ _. rung (otherAccess r) 18 n20 _ l20 (access-tells r)
+      (λ _. rung (otherXcr r) 20 n19 _ l19 (xcr-tells r)
+      (λ _. rung (eqb n 55) 19 n21 _ l21 (tells-eq n 55)
+      (λ _. rung (eqb n 44) 21 n17 _ l17 (tells-eq n 44)
+      (λ _. rung (pastEnd r) 17 n8 _ l8 (end-tells r)
+      (λ _. subst (Refuses l8) (sym (efer-number pair entryWord r)) (rung (stuck pair r) 8 0 _ [] (stuck-tells pair r) (λ _. refl)))))))))
+
+  pub report-refuses : Refuses (reportRules (viewOf j s) (guardedOf s) r) (reportRefusal s r)
+  unfolding reportRefusal
+  report-refuses =
+      let f = bit 31 (r .reason) in
+      let after = cond f [] (exitRules (viewOf j s) (guardedOf s) r) in
+      let number : ℕ = cond f 0 (cond (ownedBitsDiffer (s .vmcs) r) 15 (exitRefusal pair entryWord r)) in
+      rw (of-lawful s l)
+      (rung (not (eqb (s .progress .phase) 2)) 1 (cond (unknownReason r) 14 number) _ (by 14 (UnknownReason r) ∷ after)
+      (tells-not (tells-eq (s .progress .phase) 2))
+      (λ _. rung (unknownReason r) 14 number _ after (unknown-tells r) (λ _. ended f)))
+    where
+      ended : (f : Bool) → Refuses (cond f [] (exitRules (viewOf j s) (guardedOf s) r)) (cond f 0 (cond (ownedBitsDiffer (s .vmcs) r) 15 (exitRefusal pair entryWord r)))
+      ended true = refl
+      ended false = exit-refuses

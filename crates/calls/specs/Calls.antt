@@ -1,0 +1,201 @@
+-- A list of calls on one session's byte record, each as the exported function's contract gives it, and what is read off the list: demand 3's
+-- other side. Assumes nothing.
+use Prim.Native.Nat.{ℕ, _+_}
+use mathlib.Core.Path.{_≡_}
+use mathlib.Core.Bool.{Bool, true, false, cond, not, _||_}
+use mathlib.Core.List.{List, [], _∷_, _++_}
+use mathlib.Core.Option.{none, some}
+use lib.Dec.{eqb}
+use lib.ListN.{take, replicate}
+use Rattle.bits.specs.Words.{bit}
+use Rattle.vmcs.specs.Field.{valueOf}
+use Rattle.vmcs.specs.Control.{pairAt}
+use Rattle.vmcs.specs.Names.VmcsControl32 as VmcsControl32
+use Rattle.vmcs.specs.Names.VmcsControlNW as VmcsControlNW
+use Rattle.vmcs.specs.Names.VmcsGuest32 as VmcsGuest32
+use Rattle.vmcs.specs.Names.VmcsGuestNW as VmcsGuestNW
+use Rattle.vcpu_session.specs.Session.{newSession}
+use Rattle.vcpu_session.specs.declared.Session.{Session}
+use Rattle.vcpu_events.specs.Queue as Queue
+use Rattle.vcpu_events.specs.declared.Injection.{Injection}
+use Rattle.vcpu_events.specs.declared.Injection.the-variants.{Empty, Held, Written}
+use Rattle.vcpu_access.specs.Access as Access
+use Rattle.record.specs.Codec.{sessionOf, encodeOf, Encoded}
+use Rattle.x86_vcpu.specs.Records.{callOf, queueStep, EntryCall, entryCall, FramesCall}
+use Rattle.x86_vcpu.specs.SetupCall.{setupCall}
+use Rattle.x86_vcpu.specs.ReportCall.{ReportCall, reportCall}
+use Rattle.calls.specs.Reference.{Call, setup, queueEvent, injectInterrupt, entry, exitReport, apicValue, fieldWrite, registerWrite, Event, Reference, Guarded, Fed, queuedBy, entriesBy, injectedBy, heldBy}
+
+-- ---- one call
+
+-- its refusal or 0, what an entry does with the front (Empty for every other call), and the state that it leaves
+pub record Outcome (S : Type 0) : Type 0 where
+  pub refusal : ℕ
+  pub answer : Injection
+  pub state : S
+
+abbrev pub plain : Encoded → Outcome (List ℕ)
+plain r = record { refusal = r .refusal; answer = Empty; state = r .bytes }
+
+abbrev pub framed : FramesCall → Outcome (List ℕ)
+framed r = record { refusal = r .refusal; answer = Empty; state = r .bytes }
+
+abbrev pub reported : ReportCall → Outcome (List ℕ)
+reported r = record { refusal = r .refusal; answer = Empty; state = r .bytes }
+
+-- the injection with a number
+abbrev pub numbered : ℕ → Injection
+numbered n = cond (eqb n 0) Empty (cond (eqb n 1) Held Written)
+
+abbrev pub entered : EntryCall → Outcome (List ℕ)
+entered r = record { refusal = r .refusal; answer = numbered (r .injection); state = r .bytes }
+
+-- the call on a record. What the results of an entry and the answer of a report hold before it does not matter (Contracts.antt): 0 here
+abbrev pub stepOf : List ℕ → Call → Outcome (List ℕ)
+stepOf bytes (setup block a b msr) = framed (setupCall bytes block a b msr)
+stepOf bytes (queueEvent vector coded code) = plain (callOf (queueStep vector coded code) bytes)
+stepOf bytes (injectInterrupt vector) = plain (callOf (λ s. Queue.injectInterrupt s vector) bytes)
+stepOf bytes (entry stack) = entered (entryCall stack bytes 0 0)
+stepOf bytes (exitReport block) = reported (reportCall bytes block (replicate 8 0))
+stepOf bytes (apicValue value) = plain (callOf (λ s. Access.apicValue s value) bytes)
+stepOf bytes (fieldWrite encoding value) = plain (callOf (λ s. Access.writeField s encoding value) bytes)
+stepOf bytes (registerWrite index value) = plain (callOf (λ s. Access.setRegister s index value) bytes)
+
+-- ---- the session as the reference has it
+
+abbrev pub eventOf : ℕ → Bool → ℕ → Event
+eventOf vector coded code = record { vector = vector; code = cond coded (some code) none }
+
+abbrev pub eventsOf : List ℕ → List Bool → List ℕ → List Event
+eventsOf [] bs cs = []
+eventsOf (v ∷ vs) [] cs = []
+eventsOf (v ∷ vs) (b ∷ bs) [] = []
+eventsOf (v ∷ vs) (b ∷ bs) (c ∷ cs) = eventOf v b c ∷ eventsOf vs bs cs
+
+-- the events that wait, front first
+abbrev pub waitingOf : Session → List Event
+waitingOf s = take (s .queue .waiting) (eventsOf (s .queue .vectors) (s .queue .coded) (s .queue .codes))
+
+-- once the events `before` are injected
+abbrev pub viewOf : List Event → Session → Reference
+viewOf before s =
+    record {
+      injected = before;
+      pending = waitingOf s;
+      entries = s .progress .entries;
+      held = s .progress .held;
+      flag = bit 9 (valueOf (s .vmcs) VmcsGuestNW.RFLAGS);
+      interruptibility = valueOf (s .vmcs) VmcsGuest32.INTERRUPTIBILITY_STATE;
+      phase = s .progress .phase;
+      valid = bit 31 (valueOf (s .vmcs) VmcsControl32.VMENTRY_INTERRUPTION_INFO_FIELD);
+      ia32e = bit 9 (pairAt (s .capabilities .pairs) 4 .allowed1);
+    }
+
+abbrev pub guardedOf : Session → Guarded
+guardedOf s =
+    record {
+      cr0 = valueOf (s .vmcs) VmcsGuestNW.CR0;
+      cr0mask = valueOf (s .vmcs) VmcsControlNW.CR0_GUEST_HOST_MASK;
+      cr4 = valueOf (s .vmcs) VmcsGuestNW.CR4;
+      cr4mask = valueOf (s .vmcs) VmcsControlNW.CR4_GUEST_HOST_MASK;
+    }
+
+-- ---- a list of calls
+
+-- a call, what it came to, and the events that waited before it
+pub record Logged : Type 0 where
+  pub call : Call
+  pub refusal : ℕ
+  pub answer : Injection
+  pub waiting : List Event
+
+module _ {S : Type 0} (step : S → Call → Outcome S) (waiting : S → List Event) where
+  -- the state after the calls
+  abbrev pub afterAll : S → List Call → S
+  afterAll s [] = s
+  afterAll s (c ∷ cs) = afterAll (step s c .state) cs
+
+  abbrev pub logged : S → Call → Logged
+  logged s c = record { call = c; refusal = step s c .refusal; answer = step s c .answer; waiting = waiting s }
+
+  abbrev pub logOf : S → List Call → List Logged
+  logOf s [] = []
+  logOf s (c ∷ cs) = logged s c ∷ logOf (step s c .state) cs
+
+-- on records
+abbrev pub newRecord : List ℕ
+newRecord = encodeOf newSession
+
+abbrev pub after : List ℕ → List Call → List ℕ
+after = afterAll stepOf (λ b. waitingOf (sessionOf b))
+
+abbrev pub historyOf : List ℕ → List Call → List Logged
+historyOf = logOf stepOf (λ b. waitingOf (sessionOf b))
+
+-- ---- what is read off a list
+
+abbrev pub isRefused : ℕ → Bool
+isRefused n = not (eqb n 0)
+
+-- a next call on a record is accepted, or refused
+abbrev pub Accepts : List ℕ → Call → Type 0
+Accepts b c = isRefused (stepOf b c .refusal) ≡ false
+
+abbrev pub Declines : List ℕ → Call → Type 0
+Declines b c = isRefused (stepOf b c .refusal) ≡ true
+
+-- the session that an entry on a record leaves
+abbrev pub enteredOf : List ℕ → ℕ → Session
+enteredOf b stack = sessionOf (stepOf b (entry stack) .state)
+
+abbrev pub fed : List Logged → List Fed
+fed [] = []
+fed (l ∷ ls) = record { call = l .call; refused = isRefused (l .refusal) } ∷ fed ls
+
+-- what each call answers about the front
+abbrev pub answers : List Logged → List Injection
+answers [] = []
+answers (l ∷ ls) = l .answer ∷ answers ls
+
+-- the events that accepted calls queue, in order
+abbrev pub queuedAt : Logged → List Event
+queuedAt l = cond (isRefused (l .refusal)) [] (queuedBy (l .call))
+
+abbrev pub queued : List Logged → List Event
+queued [] = []
+queued (l ∷ ls) = queuedAt l ++ queued ls
+
+-- the events that are injected: the front, at each call that answers Written
+abbrev pub injectedAt : Logged → List Event
+injectedAt l = injectedBy (l .answer) (l .waiting)
+
+abbrev pub injected : List Logged → List Event
+injected [] = []
+injected (l ∷ ls) = injectedAt l ++ injected ls
+
+-- accepted entries, and those of them that held the front
+abbrev pub entriesAt : Logged → ℕ
+entriesAt l = cond (isRefused (l .refusal)) 0 (entriesBy (l .call))
+
+abbrev pub entries : List Logged → ℕ
+entries [] = 0
+entries (l ∷ ls) = entriesAt l + entries ls
+
+abbrev pub holds : List Logged → ℕ
+holds [] = 0
+holds (l ∷ ls) = heldBy (l .answer) + holds ls
+
+-- whether a raw write of the field with this encoding was accepted
+abbrev pub writesField : ℕ → Call → Bool
+writesField x (setup block a b msr) = false
+writesField x (queueEvent vector coded code) = false
+writesField x (injectInterrupt vector) = false
+writesField x (entry stack) = false
+writesField x (exitReport block) = false
+writesField x (apicValue value) = false
+writesField x (fieldWrite encoding value) = eqb encoding x
+writesField x (registerWrite index value) = false
+
+abbrev pub written : ℕ → List Logged → Bool
+written x [] = false
+written x (l ∷ ls) = cond (isRefused (l .refusal)) false (writesField x (l .call)) || written x ls

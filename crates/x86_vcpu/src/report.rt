@@ -1,0 +1,32 @@
+// The exit report, from the record and a block of what the processor told.
+ghost use mathlib.Core.Path.{_≡_};
+ghost use Rattle.x86_vcpu.specs.ReportCall.{reportAccepts, ReportCalled};
+use report_block::Layout;
+
+// The bytes are a record and a block of a report.
+fn report_accepts(bytes: &[u8], block: &[u8]) -> bool
+    ensures { λ r. ⌜ r ≡ reportAccepts (now (bytes .entry)) (now (block .entry)) ⌝ }
+{
+    record::accepts(bytes) & (block.len() == Layout::LENGTH)
+}
+
+// Takes what an exit reports and answers what the host is to do: refusals 2, 1, 14, 15, 16, 18, 20, 19, 21, 17, 8.
+#[no_mangle]
+pub extern "C" fn vcpu_exit_report(bytes: &mut [u8], block: &[u8], answer: &mut [u64; 8]) -> u32
+    ensures { λ r. ⌜ ReportCalled (now (bytes .entry)) (now (block .entry)) (now (answer .entry)) r (now (bytes .exit)) (now (answer .exit)) ⌝ }
+{
+    if report_accepts(bytes, block) {
+        let s = record::session_at(bytes);
+        let r = report_block::report_at(block);
+        let t = vcpu_report::exit_report(s, r);
+        if t.refusal != 0 {
+            return t.refusal;
+        }
+        let what = t.answer;
+        *answer = vcpu_answers::answer_words(what);
+        record::put_session(bytes, t.session);
+        0
+    } else {
+        2
+    }
+}

@@ -1,0 +1,389 @@
+/*
+ * Exit reports, from C: 400,000 calls (or as many as the first argument says) of every reason on records in every phase and on wrong blocks,
+ * each against a model written from document 01 and the manual. Every byte of the record and every word of the answer is compared; the calls
+ * that got each number and each answer are counted and printed.
+ */
+#include "x86_vcpu.h"
+
+#define TEST "report"
+#include "model.h"
+
+enum { BLOCK = VCPU_REPORT_LENGTH, WORDS = VCPU_ANSWER_WORDS };
+
+/* Encodings of the fields that a report reads or writes (SDM 3D, appendix B). */
+enum {
+    PRIMARY = 0x4002,
+    ENTRY_CONTROLS = 0x4012,
+    ENTRY_INFO = 0x4016,
+    EXIT_REASON = 0x4402,
+    EXIT_INFO = 0x4404,
+    EXIT_CODE = 0x4406,
+    EXIT_LENGTH = 0x440C,
+    CS_RIGHTS = 0x4816,
+    SS_RIGHTS = 0x4818,
+    INTERRUPTIBILITY = 0x4824,
+    TIMER = 0x482E,
+    EFER = 0x2806,
+    CR0_MASK = 0x6000,
+    CR4_MASK = 0x6002,
+    CR0_SHADOW = 0x6004,
+    CR4_SHADOW = 0x6006,
+    QUALIFICATION = 0x6400,
+    CR0 = 0x6800,
+    CR3 = 0x6802,
+    CR4 = 0x6804,
+    CS_BASE = 0x6808,
+    RSP = 0x681C,
+    RIP = 0x681E,
+    RFLAGS = 0x6820
+};
+
+/* ---- the model ---- */
+
+static const uint8_t *p; /* the block */
+
+static uint64_t reg(unsigned i)
+{
+    return get(p, VCPU_REPORT_REGS + 8 * i, 8);
+}
+
+static uint32_t reason(void)
+{
+    return (uint32_t)get(p, VCPU_REPORT_REASON, 2);
+}
+
+static int failed(void)
+{
+    return p[VCPU_REPORT_REASON + 3] >> 7;
+}
+
+static int apic(void)
+{
+    return (uint32_t)reg(1) >= 0x800 && (uint32_t)reg(1) <= 0x8FF;
+}
+
+static int move_to(unsigned n)
+{
+    return (p[VCPU_REPORT_QUALIFICATION] & 0x3F) == n;
+}
+
+static uint64_t moved(void)
+{
+    unsigned i = p[VCPU_REPORT_QUALIFICATION + 1] & 15;
+
+    return i == 4 ? get(p, VCPU_REPORT_RSP, 8) : reg(i);
+}
+
+static uint64_t advance(void)
+{
+    switch (reason()) {
+    case 10:
+        return 2;
+    case 28:
+        return 3;
+    case 18:
+    case 30:
+        return p[VCPU_REPORT_INSTRUCTION_LENGTH];
+    case 31:
+    case 32:
+        return apic() ? 2 : 0;
+    }
+    return 0;
+}
+
+/* A move to CR0 that sets PG, unless LME and LMA are both set. */
+static int enters_long_mode(void)
+{
+    return reason() == 28 && move_to(0) && moved() >> 31 & 1 && (get(p, VCPU_REPORT_EFER, 8) & 0x500) != 0x500;
+}
+
+static uint32_t model_number(const uint8_t *r)
+{
+    uint32_t n = reason();
+
+    if (r[0] != VCPU_RUNNING)
+        return 1;
+    if (n > 64 || n == 35 || n == 38 || n == 42 || (failed() && n != 33 && n != 34 && n != 41))
+        return 14;
+    if (failed())
+        return 0;
+    if (((get(p, VCPU_REPORT_CR0, 8) ^ field(r, CR0)) & field(r, CR0_MASK)) || ((get(p, VCPU_REPORT_CR4, 8) ^ field(r, CR4)) & field(r, CR4_MASK)))
+        return 15;
+    if (n == 1 && (!(p[VCPU_REPORT_INTERRUPTION + 3] >> 7) || (p[VCPU_REPORT_INTERRUPTION + 1] & 7) == 1))
+        return 16;
+    if (n == 28 && !move_to(0) && !move_to(4))
+        return 18;
+    if (n == 55)
+        return (uint32_t)reg(1) ? 20 : 19;
+    if (n == 44)
+        return 21;
+    if (get(p, VCPU_REPORT_RIP, 8) > ~(uint64_t)0 - advance())
+        return 17;
+    if (enters_long_mode() && !(r[VCPU_OFFSET_PAIRS + 4 * 8 + 4 + 1] >> 1 & 1))
+        return 8;
+    return 0;
+}
+
+static void store(uint8_t *r)
+{
+    static const struct {
+        uint64_t field;
+        unsigned at, size;
+    } parts[] = {
+        {RIP, VCPU_REPORT_RIP, 8},
+        {RSP, VCPU_REPORT_RSP, 8},
+        {RFLAGS, VCPU_REPORT_RFLAGS, 8},
+        {INTERRUPTIBILITY, VCPU_REPORT_INTERRUPTIBILITY, 4},
+        {CR0, VCPU_REPORT_CR0, 8},
+        {CR3, VCPU_REPORT_CR3, 8},
+        {CR4, VCPU_REPORT_CR4, 8},
+        {EFER, VCPU_REPORT_EFER, 8},
+        {CS_BASE, VCPU_REPORT_CS_BASE, 8},
+        {CS_RIGHTS, VCPU_REPORT_CS_RIGHTS, 4},
+        {SS_RIGHTS, VCPU_REPORT_SS_RIGHTS, 4},
+        {EXIT_REASON, VCPU_REPORT_REASON, 4},
+        {QUALIFICATION, VCPU_REPORT_QUALIFICATION, 8},
+        {EXIT_LENGTH, VCPU_REPORT_INSTRUCTION_LENGTH, 4},
+        {EXIT_INFO, VCPU_REPORT_INTERRUPTION, 4},
+        {EXIT_CODE, VCPU_REPORT_ERROR_CODE, 4},
+    };
+    unsigned i;
+
+    for (i = 0; i < sizeof parts / sizeof parts[0]; i++)
+        set_field(r, parts[i].field, get(p, parts[i].at, parts[i].size));
+    memcpy(r + VCPU_OFFSET_REGS, p + VCPU_REPORT_REGS, 128);
+    set_field(r, ENTRY_INFO, field(r, ENTRY_INFO) & 0x7FFFFFFF);
+}
+
+static void model_cpuid(uint8_t *r)
+{
+    uint32_t w[4], leaf = (uint32_t)reg(0);
+    unsigned i;
+
+    for (i = 0; i < 4; i++)
+        w[i] = (uint32_t)get(p, VCPU_REPORT_CPUID_EAX + 4 * i, 4);
+    if (leaf == 1) {
+        w[0] &= ~(uint32_t)0x80;
+        w[2] = (w[2] & ~(uint32_t)0x20) | 0x80000000u;
+    } else if (leaf == 7 && reg(1) == 0) {
+        w[2] &= ~(uint32_t)0x10020;
+    } else if (leaf == 0x16 && w[0] == 0) {
+        w[0] = 3000;
+    } else if (leaf == 0x40000000) {
+        w[0] = 0x40000001;
+        w[1] = 0x524D5652;
+        w[2] = 0x56524D56;
+        w[3] = 0x4D56524D;
+    } else if (leaf == 0x40000001) {
+        memset(w, 0, sizeof w);
+    }
+    put(r, VCPU_OFFSET_REGS, 8, w[0]);
+    put(r, VCPU_OFFSET_REGS + 24, 8, w[1]);
+    put(r, VCPU_OFFSET_REGS + 8, 8, w[2]);
+    put(r, VCPU_OFFSET_REGS + 16, 8, w[3]);
+}
+
+static void model_cr(uint8_t *r)
+{
+    unsigned at = move_to(0) ? VCPU_OFFSET_CR0 : VCPU_OFFSET_CR4;
+    uint64_t must1 = get(r, at, 8), must0 = get(r, at + 8, 8), value = moved();
+
+    if (move_to(0)) {
+        must1 &= ~(uint64_t)0x80000001;
+        must0 &= ~(uint64_t)0x60000000;
+    } else {
+        value |= 0x2000;
+    }
+    set_field(r, move_to(0) ? CR0 : CR4, (value & must0) | must1);
+    set_field(r, move_to(0) ? CR0_SHADOW : CR4_SHADOW, value);
+    set_field(r, move_to(0) ? CR0_MASK : CR4_MASK, must1 | ~must0);
+    if (enters_long_mode()) {
+        uint32_t m0 = (uint32_t)get(r, VCPU_OFFSET_PAIRS + 32, 4), m1 = (uint32_t)get(r, VCPU_OFFSET_PAIRS + 36, 4);
+        uint32_t old = (uint32_t)field(r, ENTRY_CONTROLS);
+
+        set_field(r, EFER, (field(r, EFER) & 0xFD01) | 0x400);
+        set_field(r, ENTRY_CONTROLS, m0 | 0x200 | (old & ~m0 & m1 & ~(uint32_t)0x200));
+    }
+}
+
+static void model_io(uint64_t *w)
+{
+    uint32_t q = (uint32_t)get(p, VCPU_REPORT_QUALIFICATION, 4);
+    uint32_t size = (q & 7) + 1, port = q >> 16;
+
+    if (q & 0x30 || (size != 1 && size != 2 && size != 4)) {
+        w[0] = VCPU_ANSWER_HALT;
+    } else if (q & 8) {
+        w[0] = VCPU_ANSWER_IO_READ;
+        w[1] = port;
+        w[2] = size;
+    } else if (port == 0x604 && size == 2 && reg(0) == 0x2000) {
+        w[0] = VCPU_ANSWER_SYSTEM_DOWN;
+    } else {
+        w[0] = VCPU_ANSWER_IO_WRITE;
+        w[1] = port;
+        w[2] = size;
+        w[3] = reg(0) & (size == 1 ? 0xFF : size == 2 ? 0xFFFF : 0xFFFFFFFF);
+    }
+}
+
+static void model_msr(uint8_t *r, uint64_t *w)
+{
+    int write = reason() == 32;
+
+    w[0] = apic() ? (write ? VCPU_ANSWER_APIC_WRITE : VCPU_ANSWER_APIC_READ) : write ? VCPU_ANSWER_SYS_REG_WRITE : VCPU_ANSWER_SYS_REG_READ;
+    w[1] = apic() ? (uint32_t)reg(1) : reg(1);
+    if (write)
+        w[2] = reg(2) << 32 | (uint32_t)reg(0);
+    else if (apic())
+        r[0] = VCPU_WAITING;
+}
+
+static void model(uint8_t *r, uint64_t *w)
+{
+    memset(w, 0, WORDS * sizeof *w);
+    if (failed()) {
+        set_field(r, EXIT_REASON, get(p, VCPU_REPORT_REASON, 4));
+        set_field(r, QUALIFICATION, get(p, VCPU_REPORT_QUALIFICATION, 8));
+        r[0] = VCPU_ENDED;
+        w[0] = VCPU_ANSWER_FAIL_ENTRY;
+        return;
+    }
+    store(r);
+    r[0] = VCPU_READY;
+    switch (reason()) {
+    case 1:
+        w[0] = VCPU_ANSWER_EXTERNAL_INTERRUPT;
+        w[1] = p[VCPU_REPORT_INTERRUPTION];
+        break;
+    case 7:
+        set_field(r, PRIMARY, field(r, PRIMARY) & ~(uint64_t)4);
+        break;
+    case 10:
+        model_cpuid(r);
+        break;
+    case 18:
+        w[0] = VCPU_ANSWER_HYPERCALL;
+        w[1] = reg(0);
+        w[2] = reg(7);
+        w[3] = reg(6);
+        w[4] = reg(2);
+        w[5] = reg(1);
+        w[6] = reg(8);
+        w[7] = reg(9);
+        break;
+    case 28:
+        model_cr(r);
+        break;
+    case 30:
+        model_io(w);
+        break;
+    case 31:
+    case 32:
+        model_msr(r, w);
+        break;
+    case 52:
+        set_field(r, TIMER, 1000000);
+        break;
+    default:
+        w[0] = VCPU_ANSWER_HALT;
+    }
+    set_field(r, RIP, get(p, VCPU_REPORT_RIP, 8) + advance());
+}
+
+/* ---- inputs ---- */
+
+static void any_record(uint8_t *r)
+{
+    unsigned i;
+
+    for (i = 0; i < N; i++)
+        r[i] = (uint8_t)(any() >> 24);
+    r[0] = (uint8_t)(below(16) ? VCPU_RUNNING : below(6));
+    r[1] = (uint8_t)(below(64) ? below(2) : 2);
+    put(r, VCPU_OFFSET_HELD, 4, get(r, VCPU_OFFSET_ENTRIES, 4) / 2);
+    r[VCPU_OFFSET_WAITING] = (uint8_t)below(65);
+    for (i = 0; i < 64; i++)
+        r[VCPU_OFFSET_CODED + i] = (uint8_t)below(2);
+}
+
+static uint64_t few(const uint64_t *list, unsigned n)
+{
+    return below(3) ? list[below(n)] : any();
+}
+
+static void any_block(uint8_t *b, const uint8_t *r)
+{
+    static const uint64_t leaves[] = {0, 1, 7, 0x16, 0x40000000, 0x40000001, 0x100000001, 0x2000, 0x12000};
+    static const uint64_t msrs[] = {0, 0x7FF, 0x800, 0x83F, 0x8FF, 0x900, 0x500000800, 0x100000000};
+    static const uint64_t quals[] = {0x06040001, 0x06040009, 0x00600000, 0x00600003, 0x00600007, 0x00600010, 0x00600020, 0x000, 0x004, 0x400, 0x104, 0x010, 0x020, 0x003};
+    static const unsigned common[] = {1, 7, 10, 18, 28, 28, 28, 30, 30, 31, 32, 44, 52, 55, 33, 34, 41};
+    unsigned i, n = below(3) ? common[below(17)] : below(67);
+
+    for (i = 0; i < BLOCK; i++)
+        b[i] = (uint8_t)(any() >> 24);
+    put(b, VCPU_REPORT_REASON, 2, n);
+    b[VCPU_REPORT_REASON + 3] &= (uint8_t)((n == 33 || n == 34 || n == 41) && below(2) ? 0xFF : below(32) ? 0x7F : 0xFF);
+    put(b, VCPU_REPORT_REGS, 8, few(leaves, 9));
+    put(b, VCPU_REPORT_REGS + 8, 8, few(msrs, 8));
+    put(b, VCPU_REPORT_QUALIFICATION, 8, few(quals, 14));
+    put(b, VCPU_REPORT_RIP, 8, below(8) ? any() >> below(60) : ~(uint64_t)0 - below(260));
+    if (below(8)) {
+        uint64_t m0 = field(r, CR0_MASK), m4 = field(r, CR4_MASK);
+
+        put(b, VCPU_REPORT_CR0, 8, (any() & ~m0) | (field(r, CR0) & m0));
+        put(b, VCPU_REPORT_CR4, 8, (any() & ~m4) | (field(r, CR4) & m4));
+    }
+    if (below(4))
+        b[VCPU_REPORT_INTERRUPTION + 3] |= 0x80;
+    if (below(4) == 0)
+        put(b, VCPU_REPORT_CPUID_EAX, 4, 0);
+}
+
+/* ---- the calls ---- */
+
+static uint8_t r[N], s[N], block[BLOCK + 1];
+static uint64_t answer[WORDS], expected[WORDS];
+static unsigned long numbers[32], answers[12];
+
+static void once(void)
+{
+    size_t length = below(64) ? N : N - 1, blocks = below(64) ? BLOCK : BLOCK - 1 + 2 * below(2);
+    uint32_t number, wanted;
+    unsigned i;
+
+    any_record(r);
+    any_block(block, r);
+    for (i = 0; i < WORDS; i++)
+        answer[i] = expected[i] = any();
+    memcpy(s, r, N);
+    p = block;
+    wanted = !lawful(s, length) || blocks != BLOCK ? 2 : model_number(s);
+    if (wanted == 0)
+        model(s, expected);
+    number = vcpu_exit_report(r, length, block, blocks, answer);
+    CHECK(number == wanted);
+    CHECK(memcmp(r, s, N) == 0);
+    CHECK(memcmp(answer, expected, sizeof answer) == 0);
+    numbers[number]++;
+    if (number == 0)
+        answers[answer[0]]++;
+}
+
+int main(int argc, char **argv)
+{
+    unsigned long calls = argc > 1 ? strtoul(argv[1], 0, 10) : 400000, i;
+
+    for (i = 0; i < calls; i++)
+        once();
+    for (i = 0; i < 32; i++)
+        if (numbers[i])
+            printf("report: number %lu, %lu calls\n", i, numbers[i]);
+    for (i = 0; i < 12; i++) {
+        printf("report: answer %lu, %lu calls\n", i, answers[i]);
+        CHECK(calls < 10000 || answers[i]);
+    }
+    CHECK(calls < 10000 || (numbers[1] && numbers[2] && numbers[8] && numbers[14] && numbers[15] && numbers[16] && numbers[17] && numbers[18] && numbers[19] && numbers[20] && numbers[21]));
+    printf("report: %lu calls, every byte and word as the model\n", calls);
+    return 0;
+}

@@ -12,10 +12,12 @@ mod calls;
 mod choose;
 mod control;
 mod intercepts;
+mod kept;
 mod report;
 mod session;
 mod setup;
 mod tally;
+mod whole;
 
 use oracle::generate::Random;
 use std::process::ExitCode;
@@ -27,7 +29,7 @@ struct Comparison {
     run: fn(&mut Random, u64, &mut Totals),
 }
 
-const COMPARISONS: [Comparison; 8] = [
+const COMPARISONS: [Comparison; 11] = [
     Comparison { names: &["vcpu_set_control"], run: control::run },
     Comparison { names: &["vcpu_set_io_intercept_of_range"], run: intercepts::run_ports },
     Comparison { names: &["vcpu_set_read_intercept"], run: intercepts::run_reads },
@@ -36,10 +38,10 @@ const COMPARISONS: [Comparison; 8] = [
     Comparison { names: &["vcpu_new"], run: session::run_new },
     Comparison { names: &calls::NAMES, run: session::run },
     Comparison { names: &["vcpu_setup"], run: setup::run },
+    Comparison { names: &["vcpu_exit_report"], run: report::run },
+    Comparison { names: &[], run: whole::run },
+    Comparison { names: &[], run: kept::run },
 ];
-
-/// Functions that the archive may lack still: each is compared as soon as it is there.
-const LATER: [Comparison; 1] = [Comparison { names: &["vcpu_exit_report"], run: report::run }];
 
 /// The names that the archive lacks.
 fn missing(comparison: &Comparison) -> Vec<&'static str> {
@@ -53,25 +55,18 @@ fn main() -> ExitCode {
     let seed = arguments.get(1).copied().unwrap_or(1);
     println!("differential: {cases} cases for each function, seed {seed}");
     let mut totals = Totals::default();
-    let mut lacking = 0;
-    for (i, comparison) in COMPARISONS.iter().chain(&LATER).enumerate() {
-        let missing = missing(comparison);
-        if missing.is_empty() {
-            (comparison.run)(&mut Random::new(seed.wrapping_add((i as u64) << 32), true), cases, &mut totals);
-        } else if i < COMPARISONS.len() {
-            missing.iter().for_each(|name| println!("{name}: NOT IN THE ARCHIVE"));
-            lacking += missing.len();
-        } else {
-            missing.iter().for_each(|name| println!("{name}: not in the archive yet, not compared"));
-        }
+    let lacking: Vec<&str> = COMPARISONS.iter().flat_map(missing).collect();
+    if !lacking.is_empty() {
+        lacking.iter().for_each(|name| println!("{name}: NOT IN THE ARCHIVE"));
+        return ExitCode::from(1);
     }
-    let compared = |name: &str| COMPARISONS.iter().chain(&LATER).any(|comparison| comparison.names.contains(&name));
+    for (i, comparison) in COMPARISONS.iter().enumerate() {
+        (comparison.run)(&mut Random::new(seed.wrapping_add((i as u64) << 32), true), cases, &mut totals);
+    }
+    let compared = |name: &str| COMPARISONS.iter().any(|comparison| comparison.names.contains(&name));
     for name in archive::exported().filter(|name| !compared(name)) {
         println!("{name}: no comparison");
     }
-    if lacking > 0 {
-        println!("{lacking} functions are not in the archive");
-    }
     println!("total: {} compared, {} differ", totals.compared, totals.different);
-    ExitCode::from((totals.different > 0 || lacking > 0) as u8)
+    ExitCode::from((totals.different > 0) as u8)
 }

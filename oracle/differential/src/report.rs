@@ -20,65 +20,32 @@ const MASK_REFUSED: u32 = 15;
 const TYPE_REFUSED: u32 = 16;
 const CR0_MASK: u32 = 0x6000;
 const CR4_MASK: u32 = 0x6002;
+const CR_ACCESS: u32 = 28;
 const IO_INSTRUCTION: u32 = 30;
+/// In the entry controls.
+const IA32E_MODE: u64 = 0x200;
 /// Size 8, and neither a string nor a repeated instruction.
 const QWORD: u64 = 7;
 const STRING_OR_REPEATED: u64 = 0x30;
 
-/// The answer's eight words: its code and its numbers, unused ones 0.
-fn answer_words(answer: &Answer) -> [u64; 8] {
-    let code = match answer {
-        Answer::Nothing => 0,
-        Answer::Hypercall { .. } => 1,
-        Answer::IoRead { .. } => 2,
-        Answer::IoWrite { .. } => 3,
-        Answer::SystemDown => 4,
-        Answer::ExternalInterrupt { .. } => 5,
-        Answer::SysRegRead { .. } => 6,
-        Answer::SysRegWrite { .. } => 7,
-        Answer::ApicRead { .. } => 8,
-        Answer::ApicWrite { .. } => 9,
-        Answer::Halt => 10,
-        Answer::FailEntry => 11,
-    };
-    let mut words = [0; 8];
-    words[0] = code;
-    for (word, number) in words[1..].iter_mut().zip(answer.numbers()) {
-        *word = number;
-    }
-    words
-}
-
-fn phase_after(answer: &Answer) -> u8 {
-    match answer {
-        Answer::ApicRead { .. } => record::WAITING_PHASE,
-        Answer::FailEntry => record::ENDED,
-        _ => record::READY,
-    }
-}
-
-/// What the original does with a report; a refused one changes nothing. The unused place of the register file is stored like the others
-/// (docs/DIFFERENCES.md, register slot 4).
-fn original(session: &mut Session, report: &Report) -> Outcome<Answer> {
-    let outcome = session.oracle.attempt(|oracle| oracle.exit(report));
+/// What the original does with a report.
+pub fn original(session: &mut Session, report: &Report) -> Outcome<Answer> {
+    let outcome = session.oracle.take_report(report);
     if let Ok(answer) = &outcome {
-        session.paper.phase = phase_after(answer);
-        if !report.failed() {
-            session.oracle.store_register(4, report.registers[4]);
-        }
+        session.paper.phase = record::phase_after(answer);
     }
     outcome
 }
 
 /// The reply that the port must give.
-fn expected(report: &Report, outcome: &Outcome<Answer>) -> Reply {
+pub fn expected(report: &Report, outcome: &Outcome<Answer>) -> Reply {
     match outcome {
-        Ok(answer) => Reply::accepted(&answer_words(answer).map(|word| (8, word))),
+        Ok(answer) => Reply::accepted(&answer.words().map(|word| (8, word))),
         Err(failure) => Reply::refused(refusal_number(Original::Exit(report.reason), failure).expect("a number")),
     }
 }
 
-fn port(record: &mut Buffer, length: usize, block: &[u8]) -> Reply {
+pub fn port(record: &mut Buffer, length: usize, block: &[u8]) -> Reply {
     let exit_report = archive::vcpu_exit_report().expect("the function");
     let mut reply = Reply::refused(0);
     let answer = reply.results.first();
@@ -86,14 +53,26 @@ fn port(record: &mut Buffer, length: usize, block: &[u8]) -> Reply {
     reply
 }
 
-/// One report in the running phase. Where the archive has no such call yet, our record is brought to where the original is.
+/// One report in the running phase.
 pub fn step(session: &mut Session, random: &mut Random, tally: &mut Tally) {
     let report = random.report(&mut session.oracle);
     let outcome = original(session, &report);
-    if archive::vcpu_exit_report().is_none() {
+    let reply = port(&mut session.ours, LENGTH, &report.block());
+    session.check(tally, expected(&report, &outcome), reply, || format!("{report:x?}"));
+}
+
+/// A move to CR0 that turns paging on, with a RIP near the end and, mostly, an entry word that cannot follow: 17 comes before 8.
+fn crowded_step(session: &mut Session, random: &mut Random, tally: &mut Tally) {
+    if random.chance(80) {
+        session.paper.kept.pairs[4] &= !(IA32E_MODE | IA32E_MODE << 32);
+        session.oracle.store_capabilities(&session.paper.kept);
         session.place();
-        return;
     }
+    let mut report = random.report(&mut session.oracle);
+    (report.reason, report.qualification) = (CR_ACCESS, 0);
+    (report.registers[0], report.efer) = (1 << 31 | random.word(), 0x100);
+    report.rip = u64::MAX - random.below(8);
+    let outcome = original(session, &report);
     let reply = port(&mut session.ours, LENGTH, &report.block());
     session.check(tally, expected(&report, &outcome), reply, || format!("{report:x?}"));
 }
@@ -109,7 +88,7 @@ fn qword_step(session: &mut Session, random: &mut Random, tally: &mut Tally) {
 }
 
 /// Makes a report that document 01 refuses and the original does not: the number.
-fn spoil(session: &mut Session, random: &mut Random, report: &mut Report) -> u32 {
+pub fn spoil(session: &mut Session, random: &mut Random, report: &mut Report) -> u32 {
     match random.below(4) {
         0 => {
             report.reason = 1 << 31 | random.pick(&[0, 1, 7, 10, 12, 28, 30, 32, 35, 40, 42, 44, 55, 64]);
@@ -183,9 +162,10 @@ pub fn run(random: &mut Random, cases: u64, totals: &mut Totals) {
             session.start(random);
         }
         session.put_phase(record::RUNNING);
-        match random.below(10) {
-            0 => refused_step(&mut session, random, &mut outside),
-            1 => qword_step(&mut session, random, &mut outside),
+        match random.below(40) {
+            0..4 => refused_step(&mut session, random, &mut outside),
+            4..8 => qword_step(&mut session, random, &mut outside),
+            8 => crowded_step(&mut session, random, &mut tally),
             _ => step(&mut session, random, &mut tally),
         }
     }

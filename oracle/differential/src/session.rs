@@ -190,9 +190,7 @@ pub fn run(random: &mut Random, cases: u64, totals: &mut Totals) {
         session.step(random, &mut lines, &mut reports);
     }
     lines.add_to(totals);
-    if archive::vcpu_exit_report().is_some() {
-        totals.add(reports);
-    }
+    totals.add(reports);
 }
 
 /// `vcpu_new`, on buffers of any bytes: the record and the frames of a new vCPU of the original.

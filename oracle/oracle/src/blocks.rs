@@ -90,18 +90,58 @@ impl Setup {
     }
 }
 
+/// How many numbers a report has.
+pub const REPORT_NUMBERS: usize = 36;
+/// Their widths in bytes: registers, the guest's fields, exit words, CPUID.
+pub const REPORT_WIDTHS: [usize; REPORT_NUMBERS] = [
+    8, 8, 8, 8, 8, 8, 8, 8, 8, 8, 8, 8, 8, 8, 8, 8, // registers
+    8, 8, 8, 4, 8, 8, 8, 8, 8, 4,
+    4, // RIP, RSP, RFLAGS, interruptibility, CR0, CR3, CR4, EFER, CS base, CS and SS rights
+    4, 8, 4, 4, 4, // reason, qualification, instruction length, interruption information, error code
+    4, 4, 4, 4, // CPUID
+];
+
 impl Report {
-    /// The block of `vcpu_exit_report`, in document 01's order.
-    pub fn block(&self) -> Vec<u8> {
-        let mut numbers: Vec<(u64, usize)> = Vec::new();
-        numbers.extend(self.registers.map(|word| (word, 8)));
-        numbers.extend([self.rip, self.rsp, self.rflags].map(|word| (word, 8)));
-        numbers.push((self.interruptibility as u64, 4));
-        numbers.extend([self.cr0, self.cr3, self.cr4, self.efer, self.cs_base].map(|word| (word, 8)));
-        numbers.extend([self.cs_rights, self.ss_rights, self.reason].map(|word| (word as u64, 4)));
-        numbers.push((self.qualification, 8));
+    /// The numbers in document 01's order.
+    pub fn numbers(&self) -> [u64; REPORT_NUMBERS] {
+        let mut numbers = self.registers.to_vec();
+        numbers.extend([self.rip, self.rsp, self.rflags, self.interruptibility as u64]);
+        numbers.extend([self.cr0, self.cr3, self.cr4, self.efer, self.cs_base]);
+        numbers.extend([self.cs_rights, self.ss_rights, self.reason].map(u64::from));
+        numbers.push(self.qualification);
         let words = [self.instruction_length, self.interruption_info, self.interruption_error_code];
-        numbers.extend(words.into_iter().chain(self.cpuid).map(|word| (word as u64, 4)));
-        block(numbers)
+        numbers.extend(words.into_iter().chain(self.cpuid).map(u64::from));
+        numbers.try_into().expect("as many numbers as a report has")
+    }
+
+    /// The report of these numbers, each cut to its width.
+    pub fn of_numbers(numbers: &[u64; REPORT_NUMBERS]) -> Report {
+        let n = numbers;
+        let word = |i: usize| n[i] as u32;
+        Report {
+            registers: n[..16].try_into().expect("sixteen registers"),
+            rip: n[16],
+            rsp: n[17],
+            rflags: n[18],
+            interruptibility: word(19),
+            cr0: n[20],
+            cr3: n[21],
+            cr4: n[22],
+            efer: n[23],
+            cs_base: n[24],
+            cs_rights: word(25),
+            ss_rights: word(26),
+            reason: word(27),
+            qualification: n[28],
+            instruction_length: word(29),
+            interruption_info: word(30),
+            interruption_error_code: word(31),
+            cpuid: [32, 33, 34, 35].map(word),
+        }
+    }
+
+    /// The block of `vcpu_exit_report`.
+    pub fn block(&self) -> Vec<u8> {
+        block(self.numbers().into_iter().zip(REPORT_WIDTHS))
     }
 }

@@ -18,6 +18,7 @@ pub use machine::Machine;
 pub use refusal::{Call, refusal_number};
 pub use state::State;
 pub use words::{Answer, Capabilities, Entered, EntryEvent, Failure, HostWords, Report, Setup};
+pub use x86_vcpu::access;
 pub use x86_vcpu::access::PageWalk;
 pub use x86_vcpu::access::fields::FIELDS;
 
@@ -26,8 +27,8 @@ use std::cell::Cell;
 use std::panic::{AssertUnwindSafe, catch_unwind};
 use std::rc::Rc;
 use std::sync::Once;
+use x86_vcpu::access::VmxVcpu;
 use x86_vcpu::access::fields::{self, Write};
-use x86_vcpu::access::{self, VmxVcpu};
 
 pub type Event = (u8, Option<u32>);
 pub type Outcome<T> = Result<T, Failure>;
@@ -140,6 +141,22 @@ impl Oracle {
         guarded(&mut self.machine, || f(vcpu))
     }
 
+    /// The original's own functions on this vCPU, with nothing around each call: what they panic at is not caught.
+    pub fn bare<T>(&mut self, f: impl FnOnce(&mut VmxVcpu) -> T) -> T {
+        let vcpu = self.vcpu.as_mut().expect("the vCPU");
+        machine::swap(&mut self.machine);
+        let result = f(vcpu);
+        machine::swap(&mut self.machine);
+        result
+    }
+
+    /// The words of a setup, for setups by the original's own function; both PAT words are the guest's.
+    pub fn load_setup(&mut self, args: &Setup) {
+        args.load(&mut self.machine);
+        self.machine.pat_reads.clear();
+        self.machine.set_msr(words::MSR_PAT, args.guest_pat);
+    }
+
     /// Do a call; if it fails, put everything back as it was.
     pub fn attempt<T>(&mut self, f: impl FnOnce(&mut Oracle) -> Outcome<T>) -> Outcome<T> {
         let saved = self.save();
@@ -208,6 +225,16 @@ impl Oracle {
             )
         });
         self.answer(result)
+    }
+
+    /// An exit as document 01's session takes it: a refused report changes nothing, and the unused place of the register file is
+    /// stored like the others (docs/DIFFERENCES.md, register slot 4).
+    pub fn take_report(&mut self, report: &Report) -> Outcome<Answer> {
+        let answer = self.attempt(|oracle| oracle.exit(report))?;
+        if !report.failed() {
+            self.store_register(4, report.registers[4]);
+        }
+        Ok(answer)
     }
 
     /// Entry and exit in one call of the original's `run`.

@@ -2,7 +2,7 @@
 //! session has beyond it.
 
 use crate::calls::QUEUE_ROOM;
-use crate::{Capabilities, FIELDS, FIELDS_BEFORE_TABLE, Oracle, field_bits};
+use crate::{Answer, Capabilities, FIELDS, FIELDS_BEFORE_TABLE, Oracle, field_bits};
 use std::sync::LazyLock;
 
 pub const LENGTH: usize = 1525;
@@ -10,19 +10,28 @@ pub const PHASE: usize = 0;
 pub const LAUNCHED: usize = 1;
 pub const ENTRIES: usize = 2;
 pub const HELD: usize = 6;
-const REGISTERS: usize = 10;
+pub const REGISTERS: usize = 10;
 const FIELDS_AT: usize = 138;
 pub const WAITING: usize = 1068;
 const VECTORS: usize = 1069;
 pub const CODED: usize = 1133;
 const CODES: usize = 1197;
-const KEPT: usize = 1453;
+pub const KEPT: usize = 1453;
 
 pub const FRESH: u8 = 0;
 pub const READY: u8 = 1;
 pub const RUNNING: u8 = 2;
 pub const WAITING_PHASE: u8 = 3;
 pub const ENDED: u8 = 4;
+
+/// The phase that an exit with this answer leaves.
+pub fn phase_after(answer: &Answer) -> u8 {
+    match answer {
+        Answer::ApicRead { .. } => WAITING_PHASE,
+        Answer::FailEntry => ENDED,
+        _ => READY,
+    }
+}
 
 /// What document 01's session has and the original has not: it follows from the calls' answers alone.
 #[derive(Clone, Default)]

@@ -4,6 +4,7 @@ use machine::{ApicValueWanted, Entered as EnteredPayload, Machine};
 use std::any::Any;
 use x86_vcpu::access::{self, AxVCpuExitReason, VmxVcpu};
 
+pub const MSR_PAT: u32 = 0x277;
 pub const MSR_EFER: u32 = 0xC000_0080;
 pub const MSR_TRUE_ENTRY: u32 = 0x490;
 /// Fixed-0, then fixed-1.
@@ -185,7 +186,7 @@ impl Report {
 
     /// What the processor does at an exit: store the guest's state and the exit words; of a failed entry,
     /// reason and qualification only.
-    pub(crate) fn load(&self, vcpu: &mut VmxVcpu, clear_entry_valid: bool) {
+    pub fn load(&self, vcpu: &mut VmxVcpu, clear_entry_valid: bool) {
         let reason = self.reason as u64;
         let set = |fields: &[(u32, u64)]| {
             machine::with(|m| fields.iter().for_each(|&(encoding, value)| m.set_field(encoding, value)))
@@ -285,6 +286,30 @@ impl Answer {
             Answer::ApicWrite { msr, value } => vec![*msr, *value],
             _ => Vec::new(),
         }
+    }
+
+    /// The eight words of `vcpu_exit_report`: the answer's code and its numbers, words without one 0.
+    pub fn words(&self) -> [u64; 8] {
+        let code = match self {
+            Answer::Nothing => 0,
+            Answer::Hypercall { .. } => 1,
+            Answer::IoRead { .. } => 2,
+            Answer::IoWrite { .. } => 3,
+            Answer::SystemDown => 4,
+            Answer::ExternalInterrupt { .. } => 5,
+            Answer::SysRegRead { .. } => 6,
+            Answer::SysRegWrite { .. } => 7,
+            Answer::ApicRead { .. } => 8,
+            Answer::ApicWrite { .. } => 9,
+            Answer::Halt => 10,
+            Answer::FailEntry => 11,
+        };
+        let mut words = [0; 8];
+        words[0] = code;
+        for (word, number) in words[1..].iter_mut().zip(self.numbers()) {
+            *word = number;
+        }
+        words
     }
 
     /// Name and hexadecimal numbers.

@@ -5,6 +5,8 @@
 //!
 //! Equal seeds give equal bytes. No input file is longer than 65,536 bytes.
 
+#[path = "lists/exit_report.rs"]
+mod exit_report;
 #[path = "lists/setup.rs"]
 mod setup;
 
@@ -14,7 +16,7 @@ use oracle::*;
 use std::fmt::Display;
 use std::path::Path;
 
-const LISTS: [(&str, fn(&mut Random) -> List); 20] = [
+const LISTS: [(&str, fn(&mut Random) -> List); 21] = [
     ("set_control", set_control),
     ("vectors", vectors),
     ("inject_event", inject_event),
@@ -34,6 +36,7 @@ const LISTS: [(&str, fn(&mut Random) -> List); 20] = [
     ("get_ptw_info", get_ptw_info),
     ("gla2gva", gla2gva),
     ("setup", setup::list),
+    ("exit_report", exit_report::list),
     ("casesheet", casesheet),
 ];
 

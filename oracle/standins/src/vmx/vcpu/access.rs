@@ -172,6 +172,24 @@ pub fn control_word(capability: u64, old: u32, set: u32, clear: u32) -> AxResult
     control.read()
 }
 
+/// `set_control` for the pair that the last `control_word` gave.
+pub fn set_control(old: u32, set: u32, clear: u32) -> AxResult {
+    vmcs::set_control(VmcsControl32::PINBASED_EXEC_CONTROLS, Msr::IA32_VMX_TRUE_PINBASED_CTLS, old, set, clear)
+}
+
+/// The part of an entry before the guest's registers are loaded.
+pub fn inject_pending_events(vcpu: &mut VmxVcpu) -> AxResult {
+    vcpu.inject_pending_events()
+}
+
+pub fn read_rip() -> AxResult<usize> {
+    VmcsGuestNW::RIP.read()
+}
+
+pub fn write_rip(value: usize) -> AxResult {
+    VmcsGuestNW::RIP.write(value)
+}
+
 pub fn ept_pointer(root: u64) -> u64 {
     EPTPointer::from_table_phys(HostPhysAddr::from(root as usize)).bits()
 }

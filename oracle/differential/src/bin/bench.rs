@@ -1,0 +1,492 @@
+//! The speed of the port's archive and of the original, in one process and on the same inputs: the median of many batches, in
+//! nanoseconds a call, the batches of both sides taking turns.
+//!
+//!   bench
+//!
+//! Setup and each exit report are first made on both sides and compared.
+
+#[path = "../archive.rs"]
+#[allow(dead_code)]
+mod archive;
+
+use oracle::access::{self, VmxVcpu};
+use oracle::record::{self, LENGTH, Paper};
+use oracle::samples::usual_setup;
+use oracle::{FRAME_BYTES, Oracle, Report, Setup};
+use std::cell::RefCell;
+use std::hint::black_box;
+use std::time::Instant;
+
+const BATCHES: usize = 401;
+
+const HEADING: &str = "\
+One process, the same inputs, the median of 401 batches of each side, the batches taking turns. Nanoseconds a call.
+
+The port: calls of the C archive. Each call tests the record's bytes; most decode it to a session, step, and encode what changed. An exit report also decodes
+a block of 244 bytes, setup one of 257. No call keeps anything between calls.
+
+The Rust: the original's functions over arrays, called bare (no record, no block, nothing caught), as a release build has them: without overflow checks, all
+crates optimized together. Its state stays in memory. A field is an array access in place of VMREAD or VMWRITE, an MSR a search of a short list in place of
+RDMSR. An exit is its `run` with an empty queue: its assembly saves and loads the registers, and the report is stored in the arrays in place of the guest's run.
+An entry alone is its `inject_pending_events`, without that assembly; it has no phases, no counts, and tests fewer things.
+";
+
+thread_local! {
+    /// What the processor reports at the next exit of the original.
+    static REPORT: RefCell<Report> = RefCell::new(Report::default());
+}
+
+macro_rules! port {
+    ($name:ident($($argument:expr),* $(,)?)) => {
+        unsafe { archive::$name().expect("the function")($($argument),*) }
+    };
+}
+
+/// The port's bytes.
+struct Port {
+    record: [u8; LENGTH],
+    a: [u8; FRAME_BYTES],
+    b: [u8; FRAME_BYTES],
+    msr: [u8; FRAME_BYTES],
+    /// The blocks of a setup and of a report.
+    setup: Vec<u8>,
+    report: Vec<u8>,
+    answer: [u64; 8],
+}
+
+impl Port {
+    fn new(setup: &Setup) -> Self {
+        let zeros = [0; FRAME_BYTES];
+        let setup = setup.block();
+        let mut port =
+            Port { record: [0; LENGTH], a: zeros, b: zeros, msr: zeros, setup, report: Vec::new(), answer: [0; 8] };
+        assert_eq!(port.set_up(), 0);
+        port
+    }
+
+    fn set_up(&mut self) -> u32 {
+        let n = FRAME_BYTES;
+        self.record[record::PHASE] = record::FRESH;
+        let [a, b, m] = [&mut self.a, &mut self.b, &mut self.msr].map(|frame| frame.as_mut_ptr());
+        let (r, block) = (self.record.as_mut_ptr(), &self.setup);
+        port!(vcpu_setup(r, LENGTH, block.as_ptr(), block.len(), a, n, b, n, m, n))
+    }
+
+    fn edit_ports(&mut self, port: u32, count: u32, intercept: u8) -> u32 {
+        let (a, b) = (self.a.as_mut_ptr(), self.b.as_mut_ptr());
+        port!(vcpu_set_io_intercept_of_range(a, FRAME_BYTES, b, FRAME_BYTES, port, count, intercept))
+    }
+
+    fn queue(&mut self, vector: u8, code: u32) -> u32 {
+        port!(vcpu_queue_event(self.record.as_mut_ptr(), LENGTH, vector, 1, code))
+    }
+
+    fn enter(&mut self, host_stack: u64) -> u32 {
+        let (mut resumed, mut event) = (0, 0);
+        self.record[record::PHASE] = record::READY;
+        port!(vcpu_entry(self.record.as_mut_ptr(), LENGTH, host_stack, &mut resumed, &mut event)) + event as u32
+    }
+
+    fn report(&mut self) -> u32 {
+        let (r, block) = (self.record.as_mut_ptr(), &self.report);
+        port!(vcpu_exit_report(r, LENGTH, block.as_ptr(), block.len(), self.answer.as_mut_ptr()))
+    }
+
+    fn report_running(&mut self) -> u32 {
+        self.record[record::PHASE] = record::RUNNING;
+        self.report()
+    }
+
+    fn field(&mut self, encoding: u64) -> u64 {
+        let mut value = 0;
+        assert_eq!(port!(vcpu_read_field(self.record.as_ptr(), LENGTH, encoding, &mut value)), 0);
+        value
+    }
+
+    fn waiting(&mut self, events: u8) {
+        self.record[record::WAITING] = events;
+    }
+}
+
+/// Nanoseconds a call of a batch.
+fn batch(calls: u64, from: u64, mut call: impl FnMut(u64) -> u64) -> f64 {
+    let start = Instant::now();
+    for i in from..from + calls {
+        black_box(call(black_box(i)));
+    }
+    start.elapsed().as_nanos() as f64 / calls as f64
+}
+
+fn median(mut times: Vec<f64>) -> f64 {
+    times.sort_by(f64::total_cmp);
+    times[times.len() / 2]
+}
+
+struct Bench {
+    port: Port,
+    oracle: Oracle,
+    /// The rows that have a goal: name and ratio.
+    goals: Vec<(String, f64)>,
+}
+
+impl Bench {
+    /// A row: both sides in turn.
+    fn row(
+        &mut self,
+        name: &str,
+        calls: u64,
+        mut port: impl FnMut(&mut Port, u64) -> u64,
+        mut rust: impl FnMut(&mut VmxVcpu, u64) -> u64,
+    ) -> f64 {
+        let (mut ours, mut theirs) = (Vec::new(), Vec::new());
+        let Bench { port: bytes, oracle, .. } = self;
+        oracle.bare(|vcpu| {
+            for k in 0..BATCHES as u64 {
+                ours.push(batch(calls, k * calls, |i| port(bytes, i)));
+                theirs.push(batch(calls, k * calls, |i| rust(vcpu, i)));
+            }
+        });
+        let (ours, theirs) = (median(ours), median(theirs));
+        let ratio = ours / theirs;
+        let digits = if ratio < 0.1 { 4 } else { 2 };
+        println!("| {name} | {ours:.1} | {theirs:.1} | {ratio:.digits$} |");
+        ratio
+    }
+
+    /// A row with a goal.
+    fn goal_row(
+        &mut self,
+        name: &str,
+        calls: u64,
+        port: impl FnMut(&mut Port, u64) -> u64,
+        rust: impl FnMut(&mut VmxVcpu, u64) -> u64,
+    ) {
+        let ratio = self.row(name, calls, port, rust);
+        self.goals.push((name.to_string(), ratio));
+    }
+
+    /// A row of the port alone.
+    fn lone_row(&mut self, name: &str, calls: u64, mut port: impl FnMut(&mut Port, u64) -> u64) {
+        let bytes = &mut self.port;
+        let times = (0..BATCHES as u64).map(|k| batch(calls, k * calls, |i| port(bytes, i))).collect();
+        println!("| {name} | {:.1} | - | - |", median(times));
+    }
+
+    fn lone_rust_row(&mut self, name: &str, calls: u64, mut rust: impl FnMut(&mut VmxVcpu, u64) -> u64) {
+        let times =
+            self.oracle.bare(|vcpu| (0..BATCHES as u64).map(|k| batch(calls, k * calls, |i| rust(vcpu, i))).collect());
+        println!("| {name} | - | {:.1} | - |", median(times));
+    }
+
+    /// Makes this the report of both sides; both must answer the same to it.
+    fn prepare_report(&mut self, mut report: Report) {
+        // Twice: the first may move a control register, which the second must report.
+        for _ in 0..2 {
+            (report.cr0, report.cr4) = (self.port.field(0x6800), self.port.field(0x6804));
+            self.port.report = report.block();
+            assert_eq!(self.port.report_running(), 0);
+            REPORT.set(report.clone());
+            let answer = self.oracle.exit(&report).expect("an answer");
+            assert_eq!(answer.words(), self.port.answer, "{report:x?}");
+        }
+    }
+}
+
+/// The original's `run`, with the report in place of the guest's run.
+fn run(vcpu: &mut VmxVcpu) -> u64 {
+    let between = Box::new(|vcpu: &mut VmxVcpu, _| REPORT.with_borrow(|report| report.load(vcpu, true)));
+    black_box(access::run(vcpu, between)).is_ok() as u64
+}
+
+fn leaves(bench: &mut Bench) {
+    bench.oracle.bare(|_| access::control_word(0x7F_0000_0016, 0x16, 9, 0)).expect("a word");
+    let set_control = archive::vcpu_set_control().expect("the function");
+    bench.goal_row(
+        "control word",
+        10_000,
+        |_, i| {
+            let mut word = 0;
+            unsafe { set_control(0x16, 0x7F, i as u32, 9, 0, &mut word) as u64 + word as u64 }
+        },
+        |_, i| access::set_control(i as u32, 9, 0).is_ok() as u64,
+    );
+    bench.row(
+        "one port",
+        10_000,
+        |port, i| port.edit_ports(i as u32 & 0x1FFF, 1, (i >> 13 & 1) as u8) as u64,
+        |vcpu, i| {
+            vcpu.set_io_intercept_of_range(i as u32 & 0x1FFF, 1, i >> 13 & 1 != 0);
+            0
+        },
+    );
+    bench.row(
+        "8,192 ports (all that the Rust reaches in a frame)",
+        100,
+        |port, i| port.edit_ports(0, 0x2000, (i & 1) as u8) as u64,
+        |vcpu, i| {
+            vcpu.set_io_intercept_of_range(0, 0x2000, i & 1 != 0);
+            0
+        },
+    );
+    bench.lone_row("65,536 ports", 500, |port, i| port.edit_ports(0, 0x1_0000, (i & 1) as u8) as u64);
+    bench.lone_row("memset of both I/O frames", 500, |port, i| {
+        let byte = if i & 1 != 0 { 0xFF } else { 0 };
+        black_box(&mut port.a).fill(byte);
+        black_box(&mut port.b).fill(byte);
+        0
+    });
+    bench.lone_row("a refused port edit", 10_000, |port, i| port.edit_ports(65_535, 2, (i & 1) as u8) as u64);
+    bench.row(
+        "one MSR, reads",
+        10_000,
+        |port, i| {
+            let frame = port.msr.as_mut_ptr();
+            port!(vcpu_set_read_intercept(frame, FRAME_BYTES, i as u32 & 0x1FFF, (i >> 13 & 1) as u8)) as u64
+        },
+        |vcpu, i| {
+            access::set_read_intercept(vcpu, i as u32 & 0x1FFF, i >> 13 & 1 != 0);
+            0
+        },
+    );
+}
+
+/// The MSRs that the original's setup reads: the host's, the fixed bits, the control words' capabilities, the guest's PAT.
+const SETUP_MSRS: [u32; 19] = [
+    0x277,
+    0xC000_0080,
+    0xC000_0100,
+    0xC000_0101,
+    0x486,
+    0x487,
+    0x488,
+    0x489,
+    0x48D,
+    0x481,
+    0x48E,
+    0x482,
+    0x48B,
+    0x48B,
+    0x48F,
+    0x483,
+    0x490,
+    0x484,
+    0x277,
+];
+
+fn setup(bench: &mut Bench, setup: &Setup) {
+    bench.oracle.load_setup(setup);
+    assert!(bench.oracle.bare(|vcpu| access::setup(vcpu, setup.entry, setup.ept_root)).is_ok());
+    assert_eq!(bench.port.set_up(), 0);
+    let paper = Paper { phase: record::READY, kept: setup.capabilities.clone(), ..Paper::default() };
+    assert!(bench.port.record == record::image(&bench.oracle, &paper), "setup");
+    let (entry, root) = (setup.entry, setup.ept_root);
+    let rust = move |vcpu: &mut VmxVcpu, _| access::setup(vcpu, entry, root).is_ok() as u64;
+    bench.goal_row("setup", 1000, |port, _| port.set_up() as u64, rust);
+    let machine = bench.oracle.machine();
+    let found = |_| SETUP_MSRS.iter().map(|&msr| machine.msr(black_box(msr))).fold(0, u64::wrapping_add);
+    let times = (0..BATCHES as u64).map(|k| batch(1000, 1000 * k, found)).collect();
+    println!("| of a setup of the Rust: its MSRs found in the list | - | {:.1} | - |", median(times));
+}
+
+fn events_and_entries(bench: &mut Bench) {
+    bench.row(
+        "queue an event",
+        2000,
+        |port, i| {
+            if i & 31 == 0 {
+                port.waiting(0);
+            }
+            port.queue(14, i as u32) as u64
+        },
+        |vcpu, i| {
+            if i & 31 == 0 {
+                access::events_mut(vcpu).clear();
+            }
+            vcpu.queue_event(14, Some(i as u32));
+            0
+        },
+    );
+    bench.port.waiting(0);
+    bench.oracle.bare(|vcpu| access::events_mut(vcpu).clear());
+    bench.goal_row(
+        "event: queued, and its word written by an entry",
+        2000,
+        |port, i| (port.queue(14, i as u32) + port.enter(i)) as u64,
+        |vcpu, i| {
+            vcpu.queue_event(14, Some(i as u32));
+            access::inject_pending_events(vcpu).is_ok() as u64
+        },
+    );
+    bench.row(
+        "entry, none waits",
+        2000,
+        |port, i| port.enter(i) as u64,
+        |vcpu, _| access::inject_pending_events(vcpu).is_ok() as u64,
+    );
+}
+
+/// Reports that differ from the usual one: name and what to change.
+type Change = (&'static str, fn(&mut Report));
+const REPORTS: [Change; 8] = [
+    ("CPUID, leaf 1", |r| (r.reason, r.registers[0]) = (10, 1)),
+    ("I/O, a byte to port 0x60", |r| (r.reason, r.qualification) = (30, 0x60_0000)),
+    ("move to CR0", |r| (r.reason, r.registers[0]) = (28, 0x11)),
+    ("interrupt window", |r| r.reason = 7),
+    ("external interrupt", |r| (r.reason, r.interruption_info) = (1, 0x8000_0020)),
+    ("VMCALL", |r| r.reason = 18),
+    ("RDMSR", |r| (r.reason, r.registers[1]) = (31, 0x10)),
+    ("HLT, which is not dealt with", |r| r.reason = 12),
+];
+
+fn usual_report(change: fn(&mut Report)) -> Report {
+    let mut report = Report { rip: 0x1000, rflags: 2, instruction_length: 2, ..Report::default() };
+    change(&mut report);
+    report
+}
+
+fn reports(bench: &mut Bench) {
+    for (name, change) in REPORTS {
+        bench.prepare_report(usual_report(change));
+        let name = format!("exit report: {name}");
+        bench.row(&name, 2000, |port, _| port.report_running() as u64, |vcpu, _| run(vcpu));
+    }
+    bench.lone_rust_row("of each exit of the Rust: the report stored in the arrays", 2000, |vcpu, _| {
+        REPORT.with_borrow(|report| report.load(vcpu, true));
+        0
+    });
+    for (name, change) in &REPORTS[..3] {
+        bench.prepare_report(usual_report(*change));
+        let name = format!("entry + report: {name}");
+        bench.goal_row(&name, 2000, |port, i| (port.enter(i) + port.report()) as u64, |vcpu, _| run(vcpu));
+    }
+    bench.goal_row(
+        "event queued + entry + report: move to CR0",
+        2000,
+        |port, i| (port.queue(14, i as u32) + port.enter(i) + port.report()) as u64,
+        |vcpu, i| {
+            vcpu.queue_event(14, Some(i as u32));
+            run(vcpu)
+        },
+    );
+}
+
+fn accesses(bench: &mut Bench) {
+    bench.row("read a field", 10_000, |port, _| port.field(0x681E), |_, _| access::read_rip().unwrap_or(0) as u64);
+    bench.row(
+        "write a field",
+        10_000,
+        |port, i| port!(vcpu_write_field(port.record.as_mut_ptr(), LENGTH, 0x681E, i)) as u64,
+        |_, i| access::write_rip(i as usize).is_ok() as u64,
+    );
+    bench.row(
+        "read a register",
+        10_000,
+        |port, i| {
+            let mut value = 0;
+            port!(vcpu_get_reg_of_index(port.record.as_ptr(), LENGTH, i & 3, &mut value)) as u64 + value
+        },
+        |vcpu, i| access::get_register(vcpu, i as u8 & 3),
+    );
+    bench.row(
+        "write a register",
+        10_000,
+        |port, i| port!(vcpu_set_reg_of_index(port.record.as_mut_ptr(), LENGTH, i & 3, i)) as u64,
+        |vcpu, i| {
+            access::set_register(vcpu, i as u8 & 3, i);
+            0
+        },
+    );
+    bench.row(
+        "APIC value",
+        10_000,
+        |port, i| {
+            port.record[record::PHASE] = record::WAITING_PHASE;
+            port!(vcpu_apic_value(port.record.as_mut_ptr(), LENGTH, i)) as u64
+        },
+        |vcpu, i| {
+            access::write_edx_eax(vcpu, i);
+            0
+        },
+    );
+}
+
+fn readings(bench: &mut Bench) {
+    let host_efer = 0x400;
+    bench.oracle.cpu_mode(host_efer);
+    bench.row(
+        "CPU mode",
+        10_000,
+        |port, _| {
+            let mut mode = 0;
+            port!(vcpu_get_cpu_mode(port.record.as_ptr(), LENGTH, host_efer, &mut mode)) as u64 + mode as u64
+        },
+        |vcpu, _| access::cpu_mode(vcpu) as u64,
+    );
+    bench.row(
+        "page-walk reading",
+        10_000,
+        |port, _| {
+            let (mut entry, mut level, mut width, mut flags) = (0, 0, 0, 0);
+            let r = port.record.as_ptr();
+            port!(vcpu_get_ptw_info(r, LENGTH, &mut entry, &mut level, &mut width, &mut flags)) as u64 + entry
+        },
+        |vcpu, _| black_box(access::page_walk(vcpu)).top_entry,
+    );
+    bench.row(
+        "linear address",
+        10_000,
+        |port, i| {
+            let mut linear = 0;
+            port!(vcpu_gla2gva(port.record.as_ptr(), LENGTH, host_efer, i, &mut linear)) as u64 + linear
+        },
+        |vcpu, i| access::gla2gva(vcpu, i),
+    );
+    bench.lone_row("counts", 10_000, |port, _| {
+        let (mut phase, mut launched, mut waiting, mut entries, mut held) = (0, 0, 0, 0, 0);
+        let r = port.record.as_ptr();
+        let number =
+            port!(vcpu_get_counts(r, LENGTH, &mut phase, &mut launched, &mut waiting, &mut entries, &mut held));
+        number as u64 + entries as u64
+    });
+    bench.lone_row("a record that is refused", 10_000, |port, i| {
+        port.record[record::PHASE] = 5;
+        port.queue(14, i as u32) as u64
+    });
+    let mut copy = [0; LENGTH];
+    bench.lone_row("memcpy of the record", 10_000, |port, i| {
+        port.record[2] = i as u8;
+        copy.copy_from_slice(black_box(&port.record));
+        black_box(&mut copy);
+        0
+    });
+}
+
+/// The processor's name, and the load of the last minute.
+fn machine() -> String {
+    let read = |path: &str| std::fs::read_to_string(path).unwrap_or_default();
+    let information = read("/proc/cpuinfo");
+    let name = information.lines().find(|line| line.starts_with("model name"));
+    let name = name.and_then(|line| line.split(": ").nth(1)).unwrap_or("an unknown processor");
+    let cores = std::thread::available_parallelism().map_or(0, |cores| cores.get());
+    let load = read("/proc/loadavg").split_whitespace().next().unwrap_or("unknown").to_string();
+    format!("{name}, {cores} cores, load of the last minute at the start {load}")
+}
+
+fn main() {
+    println!("{}\n\n{HEADING}", machine());
+    println!("| call | port | Rust | ratio |\n|---|---|---|---|");
+    let usual = usual_setup();
+    let mut oracle = Oracle::new();
+    oracle.setup(&usual).expect("setup");
+    let mut bench = Bench { port: Port::new(&usual), oracle, goals: Vec::new() };
+    leaves(&mut bench);
+    setup(&mut bench, &usual);
+    events_and_entries(&mut bench);
+    reports(&mut bench);
+    accesses(&mut bench);
+    readings(&mut bench);
+    println!("\nThe goal is a ratio of at most 1.0:");
+    for (name, ratio) in &bench.goals {
+        println!("- {name}: {ratio:.2}{}", if *ratio <= 1.0 { "" } else { ", missed" });
+    }
+}

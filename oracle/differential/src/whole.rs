@@ -1,0 +1,228 @@
+//! Whole sessions: a new one, its setup, and then calls of every kind until an entry fails. Nothing but the archive's own calls moves the
+//! port's record and frames. After each call the number, the results, every byte of the record and of the three frames are compared.
+
+use crate::archive;
+use crate::buffer::Buffer;
+use crate::calls::{self, Call, Reply};
+use crate::choose;
+use crate::report;
+use crate::session::Session;
+use crate::tally::{Tally, Totals};
+use oracle::generate::Random;
+use oracle::record::{self, LENGTH};
+use oracle::{Answer, Call as Original, FRAME_BYTES, Outcome, Report, refusal_number};
+
+/// An exit for so many cases of the other comparisons.
+const SHARE: u64 = 4;
+/// A session is left after so many calls, if no entry failed before.
+const CALLS: u64 = 400;
+const REASONS: usize = 65;
+const ANSWERS: usize = 12;
+const FRAMES: [&str; 3] = ["I/O A", "I/O B", "MSR"];
+
+/// The lines, and how often each reason and each answer occurred.
+struct Counts {
+    calls: Tally,
+    reports: Tally,
+    sessions: u64,
+    exits: u64,
+    reasons: [u64; REASONS],
+    answers: [u64; ANSWERS],
+}
+
+impl Counts {
+    fn new() -> Self {
+        Counts {
+            calls: Tally::new("whole sessions, calls"),
+            reports: Tally::new("whole sessions, exit reports"),
+            sessions: 0,
+            exits: 0,
+            reasons: [0; REASONS],
+            answers: [0; ANSWERS],
+        }
+    }
+
+    fn exit(&mut self, report: &Report, outcome: &Outcome<Answer>) {
+        self.exits += 1;
+        if let Some(times) = self.reasons.get_mut((report.reason & 0xFFFF) as usize) {
+            *times += 1;
+        }
+        if let Ok(answer) = outcome {
+            self.answers[answer.words()[0] as usize] += 1;
+        }
+    }
+
+    fn add_to(self, totals: &mut Totals) {
+        let least = |times: &[u64]| *times.iter().min().expect("a count");
+        println!(
+            "whole sessions: {} sessions, {} exits; each reason from 0 to 64 at least {} times, each answer at least {} times",
+            self.sessions,
+            self.exits,
+            least(&self.reasons),
+            least(&self.answers)
+        );
+        totals.add(self.calls);
+        totals.add(self.reports);
+    }
+}
+
+struct Whole {
+    session: Session,
+    frames: [Buffer; 3],
+    /// The frames as they must be.
+    expected: [[u8; FRAME_BYTES]; 3],
+}
+
+impl Whole {
+    /// `vcpu_new` on both sides.
+    fn new(counts: &mut Counts) -> Self {
+        let vcpu_new = archive::vcpu_new().expect("the function");
+        let session = Session::new();
+        let expected = session.oracle.frames().map(|frame| *frame);
+        let mut whole = Whole { session, frames: [(); 3].map(|()| Buffer::new(FRAME_BYTES)), expected };
+        let n = FRAME_BYTES;
+        let [a, b, m] = whole.frames.each_mut().map(|frame| frame.pointer());
+        whole.session.ours.content_mut().fill(0xA5);
+        let r = whole.session.ours.pointer();
+        let number = unsafe { vcpu_new(r, LENGTH, a, n, b, n, m, n) };
+        counts.sessions += 1;
+        whole.check(&mut counts.calls, Reply::accepted(&[]), Reply::refused(number), || "vcpu_new".to_string());
+        whole
+    }
+
+    /// Record and reply, then the frames; a difference is brought to where the original is.
+    fn check(&mut self, tally: &mut Tally, expected: Reply, reply: Reply, what: impl Fn() -> String) {
+        self.session.check(tally, expected, reply, &what);
+        self.check_frames(tally, what);
+    }
+
+    fn check_frames(&mut self, tally: &mut Tally, what: impl Fn() -> String) {
+        for (name, (ours, expected)) in FRAMES.into_iter().zip(self.frames.iter_mut().zip(&self.expected)) {
+            if ours.content() != expected || !ours.margins_intact() {
+                tally.compare(false, || format!("{}: the frame {name} is not as expected", what()));
+                *ours = Buffer::new(FRAME_BYTES);
+                ours.content_mut().copy_from_slice(expected);
+            }
+        }
+    }
+
+    fn set_up(&mut self, random: &mut Random, tally: &mut Tally) {
+        let vcpu_setup = archive::vcpu_setup().expect("the function");
+        let setup = random.setup();
+        let outcome = self.session.oracle.attempt(|oracle| oracle.setup(&setup));
+        if outcome.is_ok() {
+            self.session.paper.phase = record::READY;
+            self.session.paper.kept = setup.capabilities.clone();
+            self.expected = self.session.oracle.frames().map(|frame| *frame);
+        }
+        let block = setup.block();
+        let n = FRAME_BYTES;
+        let [a, b, m] = self.frames.each_mut().map(|frame| frame.pointer());
+        let r = self.session.ours.pointer();
+        let number = unsafe { vcpu_setup(r, LENGTH, block.as_ptr(), block.len(), a, n, b, n, m, n) };
+        self.check(tally, done(Original::Setup, outcome), Reply::refused(number), || format!("{setup:x?}"));
+    }
+
+    fn report(&mut self, random: &mut Random, counts: &mut Counts) {
+        let report = random.report(&mut self.session.oracle);
+        let outcome = report::original(&mut self.session, &report);
+        counts.exit(&report, &outcome);
+        let reply = report::port(&mut self.session.ours, LENGTH, &report.block());
+        let expected = report::expected(&report, &outcome);
+        self.check(&mut counts.reports, expected, reply, || format!("{report:x?}"));
+    }
+
+    /// A report that document 01 refuses and the original does not: it changes nothing.
+    fn refused_report(&mut self, random: &mut Random, tally: &mut Tally) {
+        let mut report = random.report(&mut self.session.oracle);
+        let number = report::spoil(&mut self.session, random, &mut report);
+        let reply = report::port(&mut self.session.ours, LENGTH, &report.block());
+        self.check(tally, Reply::refused(number), reply, || format!("{report:x?}"));
+    }
+
+    fn edit_ports(&mut self, random: &mut Random, tally: &mut Tally) {
+        let edit = archive::vcpu_set_io_intercept_of_range().expect("the function");
+        let (port, count) = random.ports();
+        let intercept = random.chance(60);
+        let outcome = self.session.oracle.attempt(|oracle| oracle.set_io_intercept_of_range(port, count, intercept));
+        self.expected = self.session.oracle.frames().map(|frame| *frame);
+        let n = FRAME_BYTES;
+        let [a, b, _] = self.frames.each_mut().map(|frame| frame.pointer());
+        let number = unsafe { edit(a, n, b, n, port, count, intercept as u8) };
+        self.check(tally, done(Original::PortEdit, outcome), Reply::refused(number), || {
+            format!("ports {port:#x}, {count:#x}, {intercept}")
+        });
+    }
+
+    fn edit_msr(&mut self, random: &mut Random, tally: &mut Tally) {
+        let (msr, intercept, which) = (random.msr(), random.chance(60), random.below(3));
+        let outcome = self.session.oracle.attempt(|oracle| match which {
+            0 => oracle.set_read_intercept(msr, intercept),
+            1 => oracle.set_write_intercept(msr, intercept),
+            _ => oracle.set_msr_intercept_of_range(msr, intercept),
+        });
+        self.expected = self.session.oracle.frames().map(|frame| *frame);
+        let edit = match which {
+            0 => archive::vcpu_set_read_intercept(),
+            1 => archive::vcpu_set_write_intercept(),
+            _ => archive::vcpu_set_msr_intercept_of_range(),
+        };
+        let edit = edit.expect("the function");
+        let number = unsafe { edit(self.frames[2].pointer(), FRAME_BYTES, msr, intercept as u8) };
+        self.check(tally, done(Original::MsrEdit, outcome), Reply::refused(number), || {
+            format!("MSR {msr:#x}, {which}, {intercept}")
+        });
+    }
+
+    /// A call on the session by its arguments, refused or not.
+    fn call(&mut self, tally: &mut Tally, call: Call) {
+        let phase = self.session.paper.phase;
+        let expected = match calls::outside(call, self.session.ours.content(), LENGTH) {
+            Some(number) => Reply::refused(number),
+            None => calls::original(call, &mut self.session.oracle, &mut self.session.paper),
+        };
+        let reply = calls::port(call, self.session.ours.pointer(), LENGTH);
+        self.check(tally, expected, reply, || format!("{call:x?} in phase {phase}"));
+    }
+
+    /// The call that brings the session on, or another.
+    fn step(&mut self, random: &mut Random, counts: &mut Counts) {
+        let on = random.chance(50);
+        match self.session.paper.phase {
+            record::FRESH if on => self.set_up(random, &mut counts.calls),
+            record::READY if on => self.call(&mut counts.calls, Call::Entry { host_stack: random.word() }),
+            record::RUNNING if on => self.report(random, counts),
+            record::RUNNING if random.chance(5) => self.refused_report(random, &mut counts.reports),
+            record::WAITING_PHASE if on => self.call(&mut counts.calls, Call::ApicValue { value: random.word() }),
+            _ => match random.below(10) {
+                0 => self.edit_ports(random, &mut counts.calls),
+                1 => self.edit_msr(random, &mut counts.calls),
+                _ => {
+                    let which = random.below(calls::NAMES.len() as u64) as usize;
+                    self.call(&mut counts.calls, choose::call(random, which));
+                }
+            },
+        }
+    }
+}
+
+fn done(call: Original, outcome: Outcome<()>) -> Reply {
+    Reply::refused(match outcome {
+        Ok(()) => 0,
+        Err(failure) => refusal_number(call, &failure).expect("a number"),
+    })
+}
+
+pub fn run(random: &mut Random, cases: u64, totals: &mut Totals) {
+    let mut counts = Counts::new();
+    while counts.exits < cases.div_ceil(SHARE) {
+        let mut whole = Whole::new(&mut counts);
+        for i in 0..CALLS {
+            whole.step(random, &mut counts);
+            if whole.session.paper.phase == record::ENDED && i % 8 == 7 {
+                break;
+            }
+        }
+    }
+    counts.add_to(totals);
+}

@@ -237,7 +237,7 @@ MUTATIONS = [
         ("VMX_PREEMPTION_TIMER_VALUE] = 1_000_000;", "VMX_PREEMPTION_TIMER_VALUE] = 100_000;"),
         ("next.natural[VmcsControlNW::CR4_READ_SHADOW] = words.shadow;", "next.natural[VmcsControlNW::CR4_READ_SHADOW] = words.value;"),
         ("    next.w64[VmcsGuest64::IA32_EFER] = update.efer;\n", ""),
-        ("return set_interrupt_window(v, false);", "return set_interrupt_window(v, true);"),
+        ("return vcpu_events::set_interrupt_window(v, false);", "return vcpu_events::set_interrupt_window(v, true);"),
     ),
     *in_file(
         "vcpu_report/src/lib.rt",

@@ -16,7 +16,7 @@ use Rattle.vmcs.specs.Names.VmcsControl32 as VmcsControl32
 use Rattle.vmcs.specs.Names.VmcsHostNW as VmcsHostNW
 use Rattle.vmcs.specs.Names.VmcsReadOnly32 as VmcsReadOnly32
 use Rattle.vmcs.proofs.WriteLaws.{read-applied, sized-applied}
-use Rattle.vcpu_events.specs.Entry.{wordOf, codeOf, withCode, withLength, injected, withStack, withWindow}
+use Rattle.vcpu_events.specs.Entry.{wordOf, codeOf, withCode, withLength, injected, withStack, windowSet}
 use Rattle.vcpu_events.specs.declared.Event as Core
 use Rattle.record.specs.Runs.{Numbers}
 use Rattle.record.specs.Fitting.{VmcsFits}
@@ -50,8 +50,8 @@ module _ (f : Field) (h : placeOf f < sizeOf f) where
       let z : Same f v v = record { sized = s; value = refl } in
       cond-all (Same f v) launched _ _ (λ _. z) (λ _. same-put v v VmcsHostNW.RSP stack e z)
 
-  pub same-window : (v : Vmcs) → Sized v → sameField VmcsControl32.PRIMARY_PROCBASED_EXEC_CONTROLS f ≡ false → Same f v (withWindow v)
-  unfolding withWindow
+  pub same-window : (v : Vmcs) → Sized v → sameField VmcsControl32.PRIMARY_PROCBASED_EXEC_CONTROLS f ≡ false → Same f v (windowSet v true)
+  unfolding windowSet
   same-window v s e = same-put v v VmcsControl32.PRIMARY_PROCBASED_EXEC_CONTROLS _ e (record { sized = s; value = refl })
 
   pub same-code : (v : Vmcs) (e : Core.Event) → Sized v → sameField VmcsControl32.VMENTRY_EXCEPTION_ERR_CODE f ≡ false → Same f v (withCode v e)

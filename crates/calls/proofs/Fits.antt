@@ -1,7 +1,7 @@
 -- Well-typed calls keep sessions within their types, and lawful: every session that they lead to has a record. Assumes nothing.
 use Prim.Native.Nat.{ℕ, zero, suc, _^_, _<_}
 use mathlib.Core.Path.{_≡_, _∙_}
-use mathlib.Core.Bool.{Bool, false, cond, not}
+use mathlib.Core.Bool.{Bool, true, false, cond, not}
 use mathlib.Core.List.{List, [], _∷_, _++_}
 use native.Mathlib.Omega.{arith}
 use lib.Bits.{or-lt}
@@ -29,7 +29,7 @@ use Rattle.vcpu_session.specs.declared.Session.{Session}
 use Rattle.vcpu_events.specs.Queue as Queue
 use Rattle.vcpu_events.specs.Queue.{shifted, pushed, popped, frontOf}
 use Rattle.vcpu_events.specs.Entry as Entry
-use Rattle.vcpu_events.specs.Entry.{injectionOf, afterEntry, progressAfter, queueAfter, vmcsAfter, withStack, withWindow, wordOf, codeOf, withCode, withLength, injected}
+use Rattle.vcpu_events.specs.Entry.{injectionOf, afterEntry, progressAfter, queueAfter, vmcsAfter, withStack, windowSet, wordOf, codeOf, withCode, withLength, injected}
 use Rattle.vcpu_events.specs.declared.Event as Core
 use Rattle.vcpu_events.specs.declared.Answered.{Answered}
 use Rattle.vcpu_events.specs.declared.Entered.{Entered}
@@ -102,8 +102,8 @@ injected-fits v e h k m =
     put-fits (withLength (withCode v e) e) VmcsControl32.VMENTRY_INTERRUPTION_INFO_FIELD (wordOf e) (length-fits (withCode v e) e (code-fits v e k m))
     (event-bits (e .vector) (hasErrorCode (e .vector)) h .fits)
 
-window-fits : (v : Vmcs) → VmcsFits v → VmcsFits (withWindow v)
-unfolding withWindow
+window-fits : (v : Vmcs) → VmcsFits v → VmcsFits (windowSet v true)
+unfolding windowSet
 window-fits v m =
     put-fits v VmcsControl32.PRIMARY_PROCBASED_EXEC_CONTROLS _ m
     (or-lt 32 (valueOf v VmcsControl32.PRIMARY_PROCBASED_EXEC_CONTROLS) 4 (value-fits v VmcsControl32.PRIMARY_PROCBASED_EXEC_CONTROLS m) (lit< tt))

@@ -30,7 +30,7 @@ use Rattle.vcpu_session.specs.declared.Session.{Session}
 use Rattle.vcpu_events.specs.Queue as Queue
 use Rattle.vcpu_events.specs.Queue.{frontOf}
 use Rattle.vcpu_events.specs.Entry as Entry
-use Rattle.vcpu_events.specs.Entry.{injectionOf, afterEntry, vmcsAfter, withStack, withWindow, injected}
+use Rattle.vcpu_events.specs.Entry.{injectionOf, afterEntry, vmcsAfter, withStack, windowSet, injected}
 use Rattle.vcpu_events.specs.declared.Event as Core
 use Rattle.vcpu_events.specs.declared.Answered.{Answered}
 use Rattle.vcpu_events.specs.declared.Entered.{Entered}
@@ -140,8 +140,8 @@ module _ (v : Vmcs) (sized : Sized v) where
       }
 
   -- the window: only the primary controls
-  window-is : valueOf (withWindow v) VmcsControl32.PRIMARY_PROCBASED_EXEC_CONTROLS ≡ bitOr (valueOf v VmcsControl32.PRIMARY_PROCBASED_EXEC_CONTROLS) 4
-  unfolding withWindow
+  window-is : valueOf (windowSet v true) VmcsControl32.PRIMARY_PROCBASED_EXEC_CONTROLS ≡ bitOr (valueOf v VmcsControl32.PRIMARY_PROCBASED_EXEC_CONTROLS) 4
+  unfolding windowSet
   window-is = put-own v VmcsControl32.PRIMARY_PROCBASED_EXEC_CONTROLS _ sized (lit< tt)
 
   raw-keeps : (e x : ℕ) → positionOf encodings e < 154 → e ≢ 0x4000 → e ≢ 0x4002 → e ≢ 0x401E → e ≢ 0x400C → e ≢ 0x4012 → e ≢ 0x6800 → e ≢ 0x6804

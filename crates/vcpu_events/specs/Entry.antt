@@ -1,8 +1,9 @@
 -- Injecting an event and entering the guest (document 01, "Events" and "Session"; SDM 3C, 25.8.3). Assumes nothing.
 use Prim.Native.Nat.{ℕ, _+_, _-_, _/_, _%_, _^_}
 use mathlib.Core.Bool.{Bool, true, false, cond, not, _&&_, _||_}
-use lib.Bits.{bitOr}
+use lib.Bits.{bitAnd, bitOr}
 use lib.Dec.{eqb, leb}
+use Rattle.bits.specs.Words.{bitNot}
 use Rattle.definitions.specs.Interruption.{hasErrorCode, fromVector, isSoft, eventWord}
 use Rattle.vmcs.specs.Field.{valueOf, put}
 use Rattle.vmcs.specs.Flags.PrimaryControls as PrimaryControls
@@ -62,15 +63,19 @@ injected v e = put (withLength (withCode v e) e) VmcsControl32.VMENTRY_INTERRUPT
 unfoldable pub withStack : Vmcs → Bool → ℕ → Vmcs
 withStack v launched stack = cond launched v (put v VmcsHostNW.RSP stack)
 
--- interrupt-window exiting on
-unfoldable pub withWindow : Vmcs → Vmcs
-withWindow v =
-    put v VmcsControl32.PRIMARY_PROCBASED_EXEC_CONTROLS
+-- interrupt-window exiting, primary bit 2, on or off (SDM 3C, 25.6.2)
+abbrev pub windowWord : Vmcs → Bool → ℕ
+windowWord v enable =
+    cond enable
     (bitOr (valueOf v VmcsControl32.PRIMARY_PROCBASED_EXEC_CONTROLS) (2 ^ PrimaryControls.INTERRUPT_WINDOW_EXITING))
+    (bitAnd (valueOf v VmcsControl32.PRIMARY_PROCBASED_EXEC_CONTROLS) (bitNot 32 (2 ^ PrimaryControls.INTERRUPT_WINDOW_EXITING)))
+
+unfoldable pub windowSet : Vmcs → Bool → Vmcs
+windowSet v enable = put v VmcsControl32.PRIMARY_PROCBASED_EXEC_CONTROLS (windowWord v enable)
 
 unfoldable pub vmcsAfter : Vmcs → Event → Injection → Vmcs
 vmcsAfter v e Empty = v
-vmcsAfter v e Held = withWindow v
+vmcsAfter v e Held = windowSet v true
 vmcsAfter v e Written = injected v e
 
 -- the front leaves the queue only where it is written

@@ -4,7 +4,7 @@
 ghost use mathlib.Core.Path.{_≡_};
 ghost use Prim.Native.Nat.{_<_, _≤_, _-_, _^_};
 ghost use Rattle.vcpu_events.specs.Queue.{frontOf, shifted, popped, pushed, queueEvent, injectInterrupt};
-ghost use Rattle.vcpu_events.specs.Entry.{isHeld, injectionOf, codeOf, withCode, withLength, injected, withStack, withWindow, vmcsAfter, progressAfter, queueAfter, afterEntry, entry};
+ghost use Rattle.vcpu_events.specs.Entry.{isHeld, injectionOf, codeOf, withCode, withLength, injected, withStack, windowSet, vmcsAfter, progressAfter, queueAfter, afterEntry, entry};
 ghost use mathlib.Core.Bool.{false, cond};
 use definitions::VmxInterruptionType;
 use vcpu_session::Phase;
@@ -293,14 +293,19 @@ fn with_stack(v: Vmcs, launched: bool, stack: u64) -> Vmcs
     next
 }
 
-// Interrupt-window exiting on (`set_interrupt_window`).
-fn with_window(v: Vmcs) -> Vmcs
-    ensures { λ r. ⌜ r ≡ withWindow v ⌝ }
+// Interrupt-window exiting on or off.
+pub fn set_interrupt_window(v: Vmcs, enable: bool) -> Vmcs
+    ensures { λ r. ⌜ r ≡ windowSet v enable ⌝ }
 {
     let word = v.w32[VmcsControl32::PRIMARY_PROCBASED_EXEC_CONTROLS];
     let mut next = v;
+    if enable {
+        next.w32[VmcsControl32::PRIMARY_PROCBASED_EXEC_CONTROLS] = word
+            | PrimaryControls::INTERRUPT_WINDOW_EXITING;
+        return next;
+    }
     next.w32[VmcsControl32::PRIMARY_PROCBASED_EXEC_CONTROLS] = word
-        | PrimaryControls::INTERRUPT_WINDOW_EXITING;
+        & !PrimaryControls::INTERRUPT_WINDOW_EXITING;
     next
 }
 
@@ -309,7 +314,7 @@ fn vmcs_after(v: Vmcs, e: Event, injection: Injection) -> Vmcs
 {
     match injection {
         Injection::Empty => v,
-        Injection::Held => with_window(v),
+        Injection::Held => set_interrupt_window(v, true),
         Injection::Written => inject_event(v, e),
     }
 }

@@ -1,8 +1,8 @@
 -- What an exit leaves in the VMCS (document 01, "Session"; `builtin_vmexit_handler`). Assumes nothing.
 use Prim.Native.Nat.{ℕ, _+_, _^_}
-use mathlib.Core.Bool.{Bool, false, cond}
+use mathlib.Core.Bool.{false, cond}
 use mathlib.Core.List.{List, [], _∷_}
-use lib.Bits.{bitAnd, bitOr}
+use lib.Bits.{bitAnd}
 use lib.Dec.{eqb}
 use Rattle.bits.specs.Words.{bit, bitNot}
 use Rattle.definitions.specs.VmxExitReason as VmxExitReason
@@ -10,7 +10,6 @@ use Rattle.vmcs.specs.Cr.{cr0Words, cr4Words}
 use Rattle.vmcs.specs.Efer.{updateEfer}
 use Rattle.vmcs.specs.Field.{valueOf}
 use Rattle.vmcs.specs.Flags.Cr0Flags as Cr0Flags
-use Rattle.vmcs.specs.Flags.PrimaryControls as PrimaryControls
 use Rattle.vmcs.specs.Names.VmcsControl32 as VmcsControl32
 use Rattle.vmcs.specs.Names.VmcsControlNW as VmcsControlNW
 use Rattle.vmcs.specs.Names.VmcsGuest32 as VmcsGuest32
@@ -25,6 +24,7 @@ use Rattle.vmcs.specs.declared.controls.EferUpdate.{EferUpdate}
 use Rattle.vmcs.specs.declared.controls.Pair.{Pair}
 use Rattle.vcpu_session.specs.declared.Capabilities.{Capabilities}
 use Rattle.vcpu_session.specs.declared.Fixed.{Fixed}
+use Rattle.vcpu_events.specs.Entry.{windowSet}
 use Rattle.vcpu_exit.specs.Reading.{reasonOf, movedValue, isMoveTo, advanceOf}
 use Rattle.vcpu_exit.specs.Refusal.{entryPair}
 use Rattle.vcpu_exit.specs.declared.Report.{Report}
@@ -62,17 +62,6 @@ failureWrites r = VmcsReadOnly32.EXIT_REASON ≔ r .reason ∷ VmcsReadOnlyNW.EX
 
 unfoldable pub failureStored : Vmcs → Report → Vmcs
 failureStored v r = applied (failureWrites r) v
-
--- ---- reason 7: interrupt-window exiting, primary bit 2 (SDM 3C, 25.6.2)
-
-abbrev pub windowWord : Vmcs → Bool → ℕ
-windowWord v enable =
-    cond enable
-    (bitOr (valueOf v VmcsControl32.PRIMARY_PROCBASED_EXEC_CONTROLS) (2 ^ PrimaryControls.INTERRUPT_WINDOW_EXITING))
-    (bitAnd (valueOf v VmcsControl32.PRIMARY_PROCBASED_EXEC_CONTROLS) (bitNot 32 (2 ^ PrimaryControls.INTERRUPT_WINDOW_EXITING)))
-
-unfoldable pub windowSet : Vmcs → Bool → Vmcs
-windowSet v enable = applied (VmcsControl32.PRIMARY_PROCBASED_EXEC_CONTROLS ≔ windowWord v enable ∷ []) v
 
 -- ---- reason 52: the preemption timer starts anew (SDM 3C, 25.5.1)
 

@@ -4,14 +4,13 @@
 ghost use mathlib.Core.Path.{_≡_};
 ghost use mathlib.Core.Bool.{false};
 ghost use Rattle.vcpu_exit.specs.Reading.{pastEnd};
-ghost use Rattle.vcpu_handlers.specs.Handlers.{stored, windowSet, timerSet, cr0Set, cr4Set, eferUpdated, crHandled, handledAs, handled, ripAdvanced, vmcsAfter, failureStored};
+ghost use Rattle.vcpu_handlers.specs.Handlers.{stored, timerSet, cr0Set, cr4Set, eferUpdated, crHandled, handledAs, handled, ripAdvanced, vmcsAfter, failureStored};
 use definitions::exit_reason::VmxExitReason;
 use vcpu_exit::Report;
 use vcpu_session::Capabilities;
 use vcpu_session::Fixed;
 use vmcs::Vmcs;
 use vmcs::controls::Pair;
-use vmcs::flags::PrimaryControls;
 use vmcs::names::VmcsControl32;
 use vmcs::names::VmcsControlNW;
 use vmcs::names::VmcsGuest32;
@@ -44,22 +43,6 @@ fn store_report(v: Vmcs, r: Report) -> Vmcs
     v.w32[VmcsReadOnly32::VMEXIT_INTERRUPTION_ERR_CODE] = r.code;
     v.w32[VmcsControl32::VMENTRY_INTERRUPTION_INFO_FIELD] = entry & !0x8000_0000;
     v
-}
-
-// Interrupt-window exiting on or off.
-fn set_interrupt_window(v: Vmcs, enable: bool) -> Vmcs
-    ensures { λ t. ⌜ t ≡ windowSet v enable ⌝ }
-{
-    let word = v.w32[VmcsControl32::PRIMARY_PROCBASED_EXEC_CONTROLS];
-    let mut next = v;
-    if enable {
-        next.w32[VmcsControl32::PRIMARY_PROCBASED_EXEC_CONTROLS] = word
-            | PrimaryControls::INTERRUPT_WINDOW_EXITING;
-        return next;
-    }
-    next.w32[VmcsControl32::PRIMARY_PROCBASED_EXEC_CONTROLS] = word
-        & !PrimaryControls::INTERRUPT_WINDOW_EXITING;
-    next
 }
 
 // The timer starts anew.
@@ -133,7 +116,7 @@ fn handle_as(reason: u32, v: Vmcs, c: Capabilities, r: Report) -> Vmcs
     ensures { λ t. ⌜ t ≡ handledAs reason v c r ⌝ }
 {
     if reason == VmxExitReason::INTERRUPT_WINDOW {
-        return set_interrupt_window(v, false);
+        return vcpu_events::set_interrupt_window(v, false);
     }
     if reason == VmxExitReason::PREEMPTION_TIMER {
         return handle_vmx_preemption_timer(v);

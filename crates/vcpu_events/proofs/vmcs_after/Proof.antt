@@ -16,5 +16,5 @@ vmcs-after-spec =
     (λ c. search needs)
     (λ c κs. search needs)
     (λ c. search (answers, c .enum-told .given .1))
-    (λ c. search (answers, ← c .with-window .ensures, c .before .enum-told2 .given .1))
+    (λ c. search (answers, ← c .set-interrupt-window .ensures, c .before .enum-told2 .given .1))
     (λ c. search (answers, ← c .inject-event .ensures, c .before .enum-told3 .given .1)))

@@ -1,8 +1,8 @@
--- `vcpu_handlers::set_interrupt_window` meets its contract. Assumes nothing.
+-- `vcpu_events::set_interrupt_window` meets its contract. Assumes nothing.
 use borrow.Author.Needs.{needs}
-use Rattle.vcpu_handlers.specs.Handlers.{windowSet}
-use Rattle.vcpu_handlers.proofs.set_interrupt_window.Statement.{statement}
-use Rattle.vcpu_handlers.proofs.set_interrupt_window.Tie as tie
+use Rattle.vcpu_events.specs.Entry.{windowSet}
+use Rattle.vcpu_events.proofs.set_interrupt_window.Statement.{statement}
+use Rattle.vcpu_events.proofs.set_interrupt_window.Tie as tie
 
 pub set-interrupt-window-spec : {M : Type 1} → statement M
 unfolding windowSet

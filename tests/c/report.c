@@ -370,10 +370,58 @@ static void once(void)
         answers[answer[0]]++;
 }
 
+/* ---- the header's numbers, one small report for each ---- */
+
+/* A session that runs, set up with such words as tests/c/setup.c has, but that the entry controls may not have bit 9. */
+static void running(void)
+{
+    static const uint64_t msrs[13] = {
+        0x7F00000016, 0xFFF9FFFE0401E172u, 0x1FFFFFF00036DFF, 0x3FFFF000011FF, 0x80000021, 0xFFFFFFFF, 0x2000, 0x3767FF,
+        0x55CFEFFF00000000, 0x7F00000016, 0xFFF9FFFE04006172u, 0x1FFFFFF00036DFB, 0x3FDFF000011FB,
+    };
+    static uint8_t frames[3][VCPU_FRAME_LENGTH], arguments[VCPU_SETUP_LENGTH];
+    uint8_t resumed, event;
+    unsigned i;
+
+    CHECK(vcpu_new(r, N, frames[0], VCPU_FRAME_LENGTH, frames[1], VCPU_FRAME_LENGTH, frames[2], VCPU_FRAME_LENGTH) == 0);
+    for (i = 0; i < 13; i++)
+        put(arguments, VCPU_SETUP_MSRS + 8 * i, 8, msrs[i]);
+    CHECK(vcpu_setup(r, N, arguments, sizeof arguments, frames[0], VCPU_FRAME_LENGTH, frames[1], VCPU_FRAME_LENGTH, frames[2], VCPU_FRAME_LENGTH) == 0);
+    CHECK(vcpu_entry(r, N, 0, &resumed, &event) == 0);
+}
+
+static uint32_t told(unsigned reason, unsigned at, unsigned size, uint64_t x)
+{
+    memset(block, 0, BLOCK);
+    put(block, VCPU_REPORT_CR0, 8, field(r, CR0));
+    put(block, VCPU_REPORT_CR4, 8, field(r, CR4));
+    put(block, VCPU_REPORT_REASON, 4, reason);
+    put(block, at, size, x);
+    return vcpu_exit_report(r, N, block, BLOCK, answer);
+}
+
+static void header_numbers(void)
+{
+    running();
+    CHECK(told(65, VCPU_REPORT_RSP, 8, 0) == VCPU_REFUSED_REASON);
+    CHECK(told(12, VCPU_REPORT_CR0, 8, field(r, CR0) ^ 0x20) == VCPU_REFUSED_OWNED_BITS);
+    CHECK(told(1, VCPU_REPORT_INTERRUPTION, 4, 0x31) == VCPU_REFUSED_INTERRUPT);
+    CHECK(told(28, VCPU_REPORT_QUALIFICATION, 8, 0x10) == VCPU_REFUSED_CR_ACCESS);
+    CHECK(told(55, VCPU_REPORT_REGS + 8, 8, 1) == VCPU_REFUSED_XCR);
+    CHECK(told(55, VCPU_REPORT_REGS + 8, 8, 0) == VCPU_REFUSED_XCR0);
+    CHECK(told(44, VCPU_REPORT_RSP, 8, 0) == VCPU_REFUSED_APIC_ACCESS);
+    CHECK(told(10, VCPU_REPORT_RIP, 8, ~(uint64_t)0) == VCPU_REFUSED_SUM);
+    CHECK(told(28, VCPU_REPORT_REGS, 8, 0x80000000) == VCPU_REFUSED_SET);
+    CHECK(vcpu_exit_report(r, N, block, BLOCK - 1, answer) == VCPU_REFUSED_BYTES);
+    CHECK(told(12, VCPU_REPORT_RSP, 8, 0) == 0 && answer[0] == VCPU_ANSWER_HALT);
+    CHECK(told(12, VCPU_REPORT_RSP, 8, 0) == VCPU_REFUSED_PHASE);
+}
+
 int main(int argc, char **argv)
 {
     unsigned long calls = argc > 1 ? strtoul(argv[1], 0, 10) : 400000, i;
 
+    header_numbers();
     for (i = 0; i < calls; i++)
         once();
     for (i = 0; i < 32; i++)

@@ -372,7 +372,7 @@ static void once(void)
 
 /* ---- the header's numbers, one small report for each ---- */
 
-/* A session that runs, set up with such words as tests/c/setup.c has, but that the entry controls may not have bit 9. */
+/* A session that runs, set up from capability words whose entry controls may not have bit 9. */
 static void running(void)
 {
     static const uint64_t msrs[13] = {

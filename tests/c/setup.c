@@ -156,7 +156,7 @@ static void model_frames(uint8_t *a, uint8_t *m)
 
 /* ---- inputs ---- */
 
-/* Words such as processors with all that setup sets have them. */
+/* Capability words that allow every control that setup sets. */
 static const uint64_t real[MSR_COUNT] = {
     0x7F00000016, 0xFFF9FFFE0401E172u, 0x1FFFFFF00036DFF, 0x3FFFF000011FF, 0x80000021, 0xFFFFFFFF, 0x2000, 0x3767FF,
     0x55CFEFFF00000000, 0x7F00000016, 0xFFF9FFFE04006172u, 0x1FFFFFF00036DFB, 0x3FFFF000011FB,

@@ -1,5 +1,5 @@
 -- The names of the logic that the walks over borrowed registers use, in one place.
--- `tablesOf`, which a walk unfolds, is brought in by each walk itself.
+-- `tablesOf`, which a walk unfolds, is imported by each walk itself.
 -- Assumes nothing.
 pub use mathlib.Core.Path.{_≡_, refl}
 pub use Prim.Native.Nat.{ℕ, _<_, _^_}

@@ -4,7 +4,7 @@
 use crate::archive;
 use crate::buffer::Results;
 use oracle::calls::QUEUE_ROOM;
-use oracle::record::{self, Paper};
+use oracle::record::{self, Reference};
 use oracle::{Call as Original, EntryEvent, FIELDS, FIELDS_BEFORE_TABLE, Failure, Oracle, PageWalk, refusal_number};
 
 #[derive(Clone, Copy, Debug)]
@@ -124,17 +124,17 @@ pub fn port(call: Call, record: *mut u8, length: usize) -> Reply {
 }
 
 /// The original's answer. What document 01's session has beyond it follows from the answer.
-pub fn original(call: Call, oracle: &mut Oracle, paper: &mut Paper) -> Reply {
+pub fn original(call: Call, oracle: &mut Oracle, reference: &mut Reference) -> Reply {
     match call {
         Call::QueueEvent { vector, coded, code } => {
             oracle.queue_event(vector, (coded == 1).then_some(code));
             Reply::accepted(&[])
         }
         Call::InjectInterrupt { vector } => Reply::done(Original::InjectInterrupt, oracle.inject_interrupt(vector)),
-        Call::Entry { host_stack } => entry(host_stack, oracle, paper),
+        Call::Entry { host_stack } => entry(host_stack, oracle, reference),
         Call::ApicValue { value } => {
             oracle.apic_value(value);
-            paper.phase = record::READY;
+            reference.phase = record::READY;
             Reply::accepted(&[])
         }
         Call::ReadField { encoding } => match oracle.read_field(encoding as u32) {
@@ -149,8 +149,8 @@ pub fn original(call: Call, oracle: &mut Oracle, paper: &mut Paper) -> Reply {
         Call::SetRegister { index, value } => Reply::done(Original::Register, oracle.set_register(index as u8, value)),
         Call::GetCounts => {
             let (launched, waiting) = (oracle.launched() as u64, oracle.events().len() as u64);
-            let counts = [(4, paper.entries as u64), (4, paper.held as u64)];
-            Reply::accepted(&[(1, paper.phase as u64), (1, launched), (1, waiting), counts[0], counts[1]])
+            let counts = [(4, reference.entries as u64), (4, reference.held as u64)];
+            Reply::accepted(&[(1, reference.phase as u64), (1, launched), (1, waiting), counts[0], counts[1]])
         }
         Call::CpuMode { host_efer } => Reply::accepted(&[(4, oracle.cpu_mode(host_efer) as u64)]),
         Call::PageWalkInfo => page_walk(oracle.page_walk()),
@@ -158,16 +158,16 @@ pub fn original(call: Call, oracle: &mut Oracle, paper: &mut Paper) -> Reply {
     }
 }
 
-fn entry(host_stack: u64, oracle: &mut Oracle, paper: &mut Paper) -> Reply {
+fn entry(host_stack: u64, oracle: &mut Oracle, reference: &mut Reference) -> Reply {
     let entered = oracle.enter(host_stack).expect("an entry");
     let event = match entered.event {
         EntryEvent::None => 0,
         EntryEvent::Held => 1,
         EntryEvent::Written => 2,
     };
-    paper.phase = record::RUNNING;
-    paper.entries += 1;
-    paper.held += (entered.event == EntryEvent::Held) as u32;
+    reference.phase = record::RUNNING;
+    reference.entries += 1;
+    reference.held += (entered.event == EntryEvent::Held) as u32;
     Reply::accepted(&[(1, !entered.launch as u64), (1, event)])
 }
 

@@ -2,7 +2,7 @@
 
 use crate::calls::Call;
 use oracle::generate::Random;
-use oracle::record::{self, LENGTH, Paper};
+use oracle::record::{self, LENGTH, Reference};
 use oracle::{Event, FIELDS, FIELDS_BEFORE_TABLE, FRAME_BYTES, State, field_bits};
 
 /// Lengths that are no record's.
@@ -44,7 +44,7 @@ fn events(random: &mut Random) -> Vec<Event> {
     (0..count).map(|_| random.event()).collect()
 }
 
-pub fn paper(random: &mut Random) -> Paper {
+pub fn reference(random: &mut Random) -> Reference {
     let entries = match random.below(10) {
         0..7 => random.below(1000) as u32,
         7..9 => u32::MAX - random.below(3) as u32,
@@ -54,7 +54,7 @@ pub fn paper(random: &mut Random) -> Paper {
     let mut kept = random.capabilities();
     // Setup accepts no pair whose allowed-0 has a bit that allowed-1 lacks.
     kept.pairs.iter_mut().for_each(|pair| *pair &= *pair >> 32 | 0xFFFF_FFFF << 32);
-    Paper {
+    Reference {
         phase: if random.chance(60) { record::READY } else { any_phase },
         entries,
         held: random.below(entries as u64 + 1) as u32,

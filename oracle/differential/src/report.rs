@@ -32,7 +32,7 @@ const STRING_OR_REPEATED: u64 = 0x30;
 pub fn original(session: &mut Session, report: &Report) -> Outcome<Answer> {
     let outcome = session.oracle.take_report(report);
     if let Ok(answer) = &outcome {
-        session.paper.phase = record::phase_after(answer);
+        session.reference.phase = record::phase_after(answer);
     }
     outcome
 }
@@ -64,8 +64,8 @@ pub fn step(session: &mut Session, random: &mut Random, tally: &mut Tally) {
 /// A move to CR0 that turns paging on, with a RIP near the end and, mostly, an entry word that cannot follow: 17 comes before 8.
 fn crowded_step(session: &mut Session, random: &mut Random, tally: &mut Tally) {
     if random.chance(80) {
-        session.paper.kept.pairs[4] &= !(IA32E_MODE | IA32E_MODE << 32);
-        session.oracle.store_capabilities(&session.paper.kept);
+        session.reference.kept.pairs[4] &= !(IA32E_MODE | IA32E_MODE << 32);
+        session.oracle.store_capabilities(&session.reference.kept);
         session.place();
     }
     let mut report = random.report(&mut session.oracle);

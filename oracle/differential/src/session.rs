@@ -12,7 +12,7 @@ use crate::choose;
 use crate::report;
 use crate::tally::{Tally, Totals};
 use oracle::generate::Random;
-use oracle::record::{self, LENGTH, Paper};
+use oracle::record::{self, LENGTH, Reference};
 use oracle::{FRAME_BYTES, Oracle};
 
 /// A sequence starts anew with another state after so many calls.
@@ -43,7 +43,7 @@ impl Lines {
 /// The original and our record, in the same state.
 pub struct Session {
     pub oracle: Oracle,
-    pub paper: Paper,
+    pub reference: Reference,
     pub ours: Buffer,
     /// For records that are none: room for a wrong length.
     broken: Buffer,
@@ -53,7 +53,7 @@ impl Session {
     pub fn new() -> Self {
         let mut session = Session {
             oracle: Oracle::new(),
-            paper: Paper::default(),
+            reference: Reference::default(),
             ours: Buffer::new(LENGTH),
             broken: Buffer::new(2 * LENGTH),
         };
@@ -63,7 +63,7 @@ impl Session {
 
     /// Brings our record to where the original is.
     pub fn place(&mut self) {
-        let image = record::image(&self.oracle, &self.paper);
+        let image = record::image(&self.oracle, &self.reference);
         self.ours.content_mut().copy_from_slice(&image);
     }
 
@@ -74,8 +74,8 @@ impl Session {
             self.set_up(random);
         } else {
             self.oracle.put(&choose::state(random));
-            self.paper = choose::paper(random);
-            self.oracle.store_capabilities(&self.paper.kept);
+            self.reference = choose::reference(random);
+            self.oracle.store_capabilities(&self.reference.kept);
         }
         self.place();
     }
@@ -87,14 +87,14 @@ impl Session {
     fn set_up(&mut self, random: &mut Random) {
         let setup = random.setup();
         if self.oracle.attempt(|oracle| oracle.setup(&setup)).is_ok() {
-            self.paper.phase = record::READY;
-            self.paper.kept = setup.capabilities;
+            self.reference.phase = record::READY;
+            self.reference.kept = setup.capabilities;
         }
     }
 
     /// Compares our record and the replies, and goes on from equal bytes.
     pub fn check(&mut self, tally: &mut Tally, expected: Reply, reply: Reply, what: impl FnOnce() -> String) {
-        let image = record::image(&self.oracle, &self.paper);
+        let image = record::image(&self.oracle, &self.reference);
         let bytes_same = self.ours.content() == image && self.ours.margins_intact();
         tally.compare_number(expected.number, bytes_same && expected == reply, || {
             let differences = record::differences(self.ours.content(), &image);
@@ -108,10 +108,10 @@ impl Session {
 
     /// One call on both sides.
     fn call(&mut self, lines: &mut Lines, which: usize, call: Call) {
-        let (phase, waiting) = (self.paper.phase, self.oracle.events().len());
+        let (phase, waiting) = (self.reference.phase, self.oracle.events().len());
         let (tally, expected) = match calls::outside(call, self.ours.content(), LENGTH) {
             Some(number) => (&mut lines.outside[which], Reply::refused(number)),
-            None => (&mut lines.inside[which], calls::original(call, &mut self.oracle, &mut self.paper)),
+            None => (&mut lines.inside[which], calls::original(call, &mut self.oracle, &mut self.reference)),
         };
         let reply = calls::port(call, self.ours.pointer(), LENGTH);
         self.check(tally, expected, reply, || format!("{call:x?} in phase {phase}, {waiting} events waiting"));
@@ -154,7 +154,7 @@ impl Session {
         match call {
             Call::Entry { .. } => self.make_ready(random, lines, reports),
             Call::ApicValue { .. } => self.put_phase(record::WAITING_PHASE),
-            Call::QueueEvent { .. } | Call::InjectInterrupt { .. } if self.paper.phase == record::ENDED => {
+            Call::QueueEvent { .. } | Call::InjectInterrupt { .. } if self.reference.phase == record::ENDED => {
                 self.put_phase(random.below(record::ENDED as u64) as u8)
             }
             _ => (),
@@ -163,17 +163,17 @@ impl Session {
 
     /// From running by a report, from waiting by a value, else by the record's byte.
     fn make_ready(&mut self, random: &mut Random, lines: &mut Lines, reports: &mut Tally) {
-        if self.paper.phase == record::RUNNING {
+        if self.reference.phase == record::RUNNING {
             report::step(self, random, reports);
         }
-        if self.paper.phase == record::WAITING_PHASE {
+        if self.reference.phase == record::WAITING_PHASE {
             self.call(lines, 3, Call::ApicValue { value: random.word() });
         }
         self.put_phase(record::READY);
     }
 
     pub fn put_phase(&mut self, phase: u8) {
-        self.paper.phase = phase;
+        self.reference.phase = phase;
         self.ours.content_mut()[record::PHASE] = phase;
     }
 }
@@ -206,7 +206,7 @@ pub fn run_new(random: &mut Random, cases: u64, totals: &mut Totals) {
         let mut expected: Vec<Vec<u8>> = buffers.iter().map(|buffer| buffer.content().to_vec()).collect();
         if !wrong {
             let oracle = Oracle::new();
-            expected[0][..LENGTH].copy_from_slice(&record::image(&oracle, &Paper::default()));
+            expected[0][..LENGTH].copy_from_slice(&record::image(&oracle, &Reference::default()));
             for (bytes, frame) in expected[1..].iter_mut().zip(oracle.frames()) {
                 bytes[..FRAME_BYTES].copy_from_slice(frame);
             }

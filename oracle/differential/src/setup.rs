@@ -54,8 +54,8 @@ impl Sides {
         self.session.start_new();
         if random.chance(50) {
             self.session.oracle.put(&choose::state(random));
-            self.session.paper = choose::paper(random);
-            self.session.paper.phase = record::FRESH;
+            self.session.reference = choose::reference(random);
+            self.session.reference.phase = record::FRESH;
             for word in self.session.oracle.frames_mut().into_iter().flat_map(|frame| frame.chunks_mut(8)) {
                 word.copy_from_slice(&random.next().to_le_bytes());
             }
@@ -72,7 +72,7 @@ impl Sides {
 
     /// What the buffers must hold by the original's state; the arguments are left out.
     fn contents(&self) -> [Vec<u8>; 5] {
-        let image = record::image(&self.session.oracle, &self.session.paper).to_vec();
+        let image = record::image(&self.session.oracle, &self.session.reference).to_vec();
         let [a, b, msr] = self.session.oracle.frames().map(|frame| frame.to_vec());
         [image, Vec::new(), a, b, msr]
     }
@@ -92,8 +92,8 @@ impl Sides {
         } else {
             oracle.store_field(HOST_CR3, setup.host.cr3);
             oracle.store_field(HOST_TR, setup.host.tr as u64);
-            self.session.paper.phase = record::READY;
-            self.session.paper.kept = setup.capabilities.clone();
+            self.session.reference.phase = record::READY;
+            self.session.reference.kept = setup.capabilities.clone();
         }
         (number, number == theirs && asked == *setup)
     }

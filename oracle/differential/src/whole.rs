@@ -111,8 +111,8 @@ impl Whole {
         let setup = random.setup();
         let outcome = self.session.oracle.attempt(|oracle| oracle.setup(&setup));
         if outcome.is_ok() {
-            self.session.paper.phase = record::READY;
-            self.session.paper.kept = setup.capabilities.clone();
+            self.session.reference.phase = record::READY;
+            self.session.reference.kept = setup.capabilities.clone();
             self.expected = self.session.oracle.frames().map(|frame| *frame);
         }
         let block = setup.block();
@@ -176,10 +176,10 @@ impl Whole {
 
     /// A call on the session by its arguments, refused or not.
     fn call(&mut self, tally: &mut Tally, call: Call) {
-        let phase = self.session.paper.phase;
+        let phase = self.session.reference.phase;
         let expected = match calls::outside(call, self.session.ours.content(), LENGTH) {
             Some(number) => Reply::refused(number),
-            None => calls::original(call, &mut self.session.oracle, &mut self.session.paper),
+            None => calls::original(call, &mut self.session.oracle, &mut self.session.reference),
         };
         let reply = calls::port(call, self.session.ours.pointer(), LENGTH);
         self.check(tally, expected, reply, || format!("{call:x?} in phase {phase}"));
@@ -188,7 +188,7 @@ impl Whole {
     /// The call that brings the session on, or another.
     fn step(&mut self, random: &mut Random, counts: &mut Counts) {
         let on = random.chance(50);
-        match self.session.paper.phase {
+        match self.session.reference.phase {
             record::FRESH if on => self.set_up(random, &mut counts.calls),
             record::READY if on => self.call(&mut counts.calls, Call::Entry { host_stack: random.word() }),
             record::RUNNING if on => self.report(random, counts),
@@ -219,7 +219,7 @@ pub fn run(random: &mut Random, cases: u64, totals: &mut Totals) {
         let mut whole = Whole::new(&mut counts);
         for i in 0..CALLS {
             whole.step(random, &mut counts);
-            if whole.session.paper.phase == record::ENDED && i % 8 == 7 {
+            if whole.session.reference.phase == record::ENDED && i % 8 == 7 {
                 break;
             }
         }

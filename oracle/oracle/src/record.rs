@@ -35,7 +35,7 @@ pub fn phase_after(answer: &Answer) -> u8 {
 
 /// What document 01's session has and the original has not: it follows from the calls' answers alone.
 #[derive(Clone, Default)]
-pub struct Paper {
+pub struct Reference {
     pub phase: u8,
     pub entries: u32,
     pub held: u32,
@@ -76,12 +76,12 @@ pub fn number(record: &[u8], at: usize, bytes: usize) -> u64 {
 }
 
 /// The bytes that the record must have. Places past the last event are zero, and so is a code that is not given.
-pub fn image(oracle: &Oracle, paper: &Paper) -> [u8; LENGTH] {
+pub fn image(oracle: &Oracle, reference: &Reference) -> [u8; LENGTH] {
     let mut record = [0; LENGTH];
-    record[PHASE] = paper.phase;
+    record[PHASE] = reference.phase;
     record[LAUNCHED] = oracle.launched() as u8;
-    put(&mut record, ENTRIES, 4, paper.entries as u64);
-    put(&mut record, HELD, 4, paper.held as u64);
+    put(&mut record, ENTRIES, 4, reference.entries as u64);
+    put(&mut record, HELD, 4, reference.held as u64);
     for (i, register) in oracle.registers().into_iter().enumerate() {
         put(&mut record, REGISTERS + 8 * i, 8, register);
     }
@@ -95,7 +95,7 @@ pub fn image(oracle: &Oracle, paper: &Paper) -> [u8; LENGTH] {
         record[CODED + i] = code.is_some() as u8;
         put(&mut record, CODES + 4 * i, 4, code.unwrap_or(0) as u64);
     }
-    for (i, word) in paper.kept.pairs.into_iter().chain(paper.kept.fixed()).enumerate() {
+    for (i, word) in reference.kept.pairs.into_iter().chain(reference.kept.fixed()).enumerate() {
         put(&mut record, KEPT + 8 * i, 8, word);
     }
     record

@@ -39,7 +39,7 @@ module _ {M : Type 1} (𝓤 : URA M) (H : Heap 𝓤) (A : Atoms 𝓤) (W : Given
   abbrev at : List Val × (List Val × Unit {0})
   at = (vptr b o ∷ [], (vint w64 i ∷ [], tt))
 
-  -- the machine value of the struct that is lent
+  -- the machine value of the borrowed struct
   abbrev mach : Val
   mach = LL.val T.the-type T′.the-laws h
 

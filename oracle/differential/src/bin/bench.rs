@@ -10,7 +10,7 @@
 mod archive;
 
 use oracle::access::{self, VmxVcpu};
-use oracle::record::{self, LENGTH, Paper};
+use oracle::record::{self, LENGTH, Reference};
 use oracle::samples::usual_setup;
 use oracle::{FRAME_BYTES, Oracle, Report, Setup};
 use std::cell::RefCell;
@@ -277,8 +277,8 @@ fn setup(bench: &mut Bench, setup: &Setup) {
     bench.oracle.load_setup(setup);
     assert!(bench.oracle.bare(|vcpu| access::setup(vcpu, setup.entry, setup.ept_root)).is_ok());
     assert_eq!(bench.port.set_up(), 0);
-    let paper = Paper { phase: record::READY, kept: setup.capabilities.clone(), ..Paper::default() };
-    assert!(bench.port.record == record::image(&bench.oracle, &paper), "setup");
+    let reference = Reference { phase: record::READY, kept: setup.capabilities.clone(), ..Reference::default() };
+    assert!(bench.port.record == record::image(&bench.oracle, &reference), "setup");
     let (entry, root) = (setup.entry, setup.ept_root);
     let rust = move |vcpu: &mut VmxVcpu, _| access::setup(vcpu, entry, root).is_ok() as u64;
     bench.goal_row("setup", 1000, |port, _| port.set_up() as u64, rust);

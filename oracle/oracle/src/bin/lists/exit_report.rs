@@ -4,7 +4,7 @@
 use crate::{List, digest, number_of};
 use oracle::blocks::REPORT_NUMBERS;
 use oracle::generate::Random;
-use oracle::record::{self, Paper};
+use oracle::record::{self, Reference};
 use oracle::samples::usual_setup;
 use oracle::{Answer, Call, Capabilities, FIELDS, FIELDS_BEFORE_TABLE, Oracle, Report, field_bits};
 
@@ -138,9 +138,10 @@ impl Reports {
     }
 
     fn numbers_of(&self, answer: &Answer) -> Vec<u64> {
-        let paper = Paper { phase: record::phase_after(answer), kept: self.kept.clone(), ..Paper::default() };
+        let reference =
+            Reference { phase: record::phase_after(answer), kept: self.kept.clone(), ..Reference::default() };
         let mut numbers = answer.words().to_vec();
-        numbers.push(digest(&record::image(&self.oracle, &paper)));
+        numbers.push(digest(&record::image(&self.oracle, &reference)));
         numbers
     }
 

@@ -3,7 +3,7 @@
 use crate::{List, digest, number_of};
 use oracle::blocks::SETUP_NUMBERS;
 use oracle::generate::Random;
-use oracle::record::{self, Paper};
+use oracle::record::{self, Reference};
 use oracle::samples::{processors, usual_setup};
 use oracle::{Call, Capabilities, Oracle, Setup};
 
@@ -50,10 +50,10 @@ impl Arguments {
         if setup.capabilities.inconsistent() && outcome != Err(6) {
             return None;
         }
-        let paper = Paper { phase: record::READY, kept: setup.capabilities, ..Paper::default() };
+        let reference = Reference { phase: record::READY, kept: setup.capabilities, ..Reference::default() };
         Some(outcome.map(|()| {
             let mut answer = CONTROL_WORDS.map(|encoding| oracle.read_field(encoding).expect("a field")).to_vec();
-            answer.push(digest(&record::image(&oracle, &paper)));
+            answer.push(digest(&record::image(&oracle, &reference)));
             answer.push(oracle.frames().into_iter().map(|frame| digest(frame)).sum());
             answer
         }))

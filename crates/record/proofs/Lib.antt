@@ -6,4 +6,3 @@ pub mod Flags
 pub mod Codecs
 pub mod Accepted
 pub mod RoundTrip
-pub mod InPlace

@@ -79,7 +79,7 @@ module _ (s : Session) (f : Fitting s) where
       → Codec size read write Fits Valid → (v : A) (p rest : List ℕ) → Fits v → p ≡ write v ++ rest → read p ≡ v
   part-read c v p rest h e = rw e (c .back v rest h)
 
-  session-read : sessionOf (encodeOf s) ≡ s
+  pub session-read : sessionOf (encodeOf s) ≡ s
   unfolding sessionOf flatten
   session-read =
       let phase = part-read (number 1) (s .progress .phase) _ _ (f .progress .phase) (from 0) in

@@ -5,4 +5,3 @@ pub mod Codec
 pub mod Fitting
 pub mod Acceptable
 pub mod Faithful
-pub mod Changed

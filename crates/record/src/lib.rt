@@ -1,17 +1,15 @@
 // The byte record of a session, which the host kernel holds and hands to each call.
 ghost use mathlib.Core.Path.{_≡_};
-ghost use Prim.Native.Nat.{_+_, _^_, _<_, _≤_};
-ghost use mathlib.Core.Bool.{true};
+ghost use Prim.Native.Nat.{_+_, _<_, _≤_};
 ghost use mathlib.Core.List.{[], _∷_, flatMap};
 ghost use lib.ListN.{length, drop, getD};
 ghost use lib.Seq.{sets};
 ghost use Rattle.regs.specs.Registers.{listOf};
-ghost use Rattle.vmcs.specs.Field.{Word16, Word32, Word64, Natural, widthBits, valueOf};
+ghost use Rattle.vmcs.specs.Field.{Word16, Word32, Word64, Natural, valueOf};
 ghost use Rattle.vmcs.specs.Fields.{fieldAt};
 ghost use Rattle.record.specs.Record.{LENGTH, PHASE, LAUNCHED, ENTRIES, HELD, REGS, W16, W32, W64, NATURAL, WAITING, VECTORS, CODED, CODES, PAIRS, CR0, CR4};
 ghost use Rattle.record.specs.Runs.{storedAt, All, Numbers};
-ghost use Rattle.record.specs.Codec.{pairOf, pairBytes, fixedOf, fixedBytes, sessionOf, withField, progressParts, regParts, vmcsParts, queueParts, capabilityParts, encodeOf, acceptedOf, decodeOf, encoded, encodedOf};
-ghost use Rattle.record.specs.Changed.{RestStored};
+ghost use Rattle.record.specs.Codec.{pairOf, pairBytes, fixedOf, fixedBytes, sessionOf, progressParts, regParts, vmcsParts, queueParts, capabilityParts, encodeOf, acceptedOf, decodeOf, encoded, encodedOf};
 ghost use Rattle.record.specs.Fitting.{ProgressFits, VmcsFits, QueueFits, PairFits, FixedFits, CapabilitiesFit, Fitting};
 
 pub mod words;
@@ -116,6 +114,13 @@ pub fn progress_at(b: &[u8]) -> Progress
         entries: words::get4(b, Record::ENTRIES),
         held: words::get4(b, Record::HELD),
     }
+}
+
+pub fn phase_at(b: &[u8]) -> u8
+    requires { ⌜ length (now b) ≡ LENGTH ⌝ }
+    ensures { λ r. ⌜ r ≡ sessionOf (now (b .entry)) .progress .phase ⌝ }
+{
+    words::get1(b, Record::PHASE)
 }
 
 pub fn waiting_at(b: &[u8]) -> u8
@@ -412,41 +417,6 @@ pub fn put_session(b: &mut [u8], s: Session)
     put_vmcs(b, s.vmcs);
     put_queue(b, s.queue);
     put_capabilities(b, s.capabilities);
-}
-
-// Stores where a session stands and its fields, and its queue where that has changed too. The record has the rest already.
-pub fn put_changed(b: &mut [u8], s: Session, queue: bool)
-    requires { ⌜ RestStored (now b) s queue ⌝ }
-    ensures { λ _. ⌜ now (b .exit) ≡ encodeOf s ⌝ }
-    ensures { λ _. ⌜ Fitting s ⌝ }
-{
-    put_progress(b, s.progress);
-    put_vmcs(b, s.vmcs);
-    if queue {
-        put_queue(b, s.queue);
-        return;
-    }
-}
-
-// The field at a place of the table, in place: the rest of an accepted record stays as it is.
-pub fn put_field(b: &mut [u8], place: usize, value: u64)
-    requires { ⌜ (acceptedOf (now b) ≡ true) × (place < 154) × (value < 2 ^ widthBits (fieldAt place)) ⌝ }
-    ensures { λ _. ⌜ now (b .exit) ≡ encodeOf (withField (sessionOf (now (b .entry))) (fieldAt place) value) ⌝ }
-    ensures { λ _. ⌜ Fitting (withField (sessionOf (now (b .entry))) (fieldAt place) value) ⌝ }
-{
-    if place < 17 {
-        words::put2(b, Record::W16 + place * 2, value as u16);
-        return;
-    }
-    if place < 58 {
-        words::put8(b, Record::W64 + (place - 17) * 8, value);
-        return;
-    }
-    if place < 108 {
-        words::put4(b, Record::W32 + (place - 58) * 4, value as u32);
-        return;
-    }
-    words::put8(b, Record::NATURAL + (place - 108) * 8, value);
 }
 
 // Refusal 2: the length is wrong. The bytes are then as they were.

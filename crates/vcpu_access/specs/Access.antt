@@ -34,9 +34,13 @@ setRegister s index value = cond (isUnlawful s) (answered 2 s) (registersWritten
 unfoldable pub edxEaxSet : GeneralRegisters → ℕ → GeneralRegisters
 edxEaxSet g value = withReg (withReg g 0 (low32 value)) 2 (high32 value)
 
+-- the session with its value, and ready again
+abbrev pub apicTaken : Session → ℕ → Session
+apicTaken s value = withRegs (withProgress s (inPhase (s .progress) Phase.READY)) (edxEaxSet (s .regs) value)
+
 -- 2: no record holds the session. 1: it does not wait for a value
 unfoldable pub apicValue : Session → ℕ → Answered
 apicValue s value =
     cond (isUnlawful s) (answered 2 s)
     (cond (not (eqb (s .progress .phase) Phase.WAITING)) (answered 1 s)
-    (answered 0 (withRegs (withProgress s (inPhase (s .progress) Phase.READY)) (edxEaxSet (s .regs) value))))
+    (answered 0 (apicTaken s value)))

@@ -88,7 +88,7 @@ fn shift_codes(l: [u32; 64]) -> [u32; 64]
     m
 }
 
-fn less_one(n: u8) -> u8
+pub fn less_one(n: u8) -> u8
     ensures { λ r. ⌜ r ≡ n - 1 ⌝ }
 {
     if n == 0 { 0 } else { n - 1 }
@@ -109,7 +109,7 @@ fn pop_front(q: Queue) -> Queue
     }
 }
 
-fn stored_code(e: Event) -> u32
+pub fn stored_code(e: Event) -> u32
     ensures { λ r. ⌜ r ≡ cond (e .coded) (e .code) 0 ⌝ }
 {
     if e.coded { e.code } else { 0 }
@@ -210,7 +210,7 @@ fn front_of(q: Queue) -> Event
 }
 
 // Interrupts are blocked, and the event is one (`allow_interrupt`).
-fn is_held(vector: u8, rflags: u64, interruptibility: u32) -> bool
+pub fn is_held(vector: u8, rflags: u64, interruptibility: u32) -> bool
     ensures { λ r. ⌜ r ≡ isHeld vector rflags interruptibility ⌝ }
 {
     (32 <= vector) & (((rflags >> 9) % 2 == 0) | (interruptibility != 0))
@@ -329,7 +329,7 @@ fn queue_after(q: Queue, injection: Injection) -> Queue
     }
 }
 
-fn progress_after(p: Progress, injection: Injection) -> Progress
+pub fn progress_after(p: Progress, injection: Injection) -> Progress
     requires { ⌜ (p .entries < 2 ^ 32 - 1) × (p .held ≤ p .entries) ⌝ }
     ensures { λ r. ⌜ r ≡ progressAfter p injection ⌝ }
 {

@@ -149,7 +149,7 @@ pub fn advance_of(r: Report) -> u64
 // ---- refusals
 
 // 14: above 64, or 35, 38 or 42, which the manual leaves out, or failed with a reason other than 33, 34 and 41.
-fn unknown_reason(r: Report) -> bool
+pub fn unknown_reason(r: Report) -> bool
     ensures { λ b. ⌜ b ≡ unknownReason r ⌝ }
 {
     let n = reason_of(r);
@@ -213,7 +213,7 @@ fn efer_refusal(pair: Pair, entry: u32, r: Report) -> u32
 }
 
 // The refusals of an exit: 16; 18; 20; 19, XSETBV with ECX 0; 21, an APIC access; 17; 8.
-fn exit_refusal(pair: Pair, entry: u32, r: Report) -> u32
+pub fn exit_refusal(pair: Pair, entry: u32, r: Report) -> u32
     ensures { λ n. ⌜ n ≡ exitRefusal pair entry r ⌝ }
 {
     let reason = reason_of(r);

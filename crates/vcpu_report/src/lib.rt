@@ -21,7 +21,7 @@ pub struct Reported {
 }
 
 // The general registers after an exit: CPUID changes four of them.
-fn registers_after(r: Report) -> GeneralRegisters
+pub fn registers_after(r: Report) -> GeneralRegisters
     ensures { λ g. ⌜ g ≡ registersAfter r ⌝ }
 {
     let registers = r.regs;
@@ -33,7 +33,7 @@ fn registers_after(r: Report) -> GeneralRegisters
 }
 
 // A read of an APIC register waits for its value.
-fn phase_after(r: Report) -> u8
+pub fn phase_after(r: Report) -> u8
     ensures { λ p. ⌜ p ≡ phaseAfter r ⌝ }
 {
     if vcpu_exit::reason_of(r) == VmxExitReason::MSR_READ {

@@ -35,12 +35,16 @@ consistent c =
     && fixedConsistent (c .cr0)
     && fixedConsistent (c .cr4)
 
--- 2: no record holds the session. 1: not fresh. 6: a pair or fixed bits that contradict themselves. Then 8 or 9, word by word
+-- 6: a pair or fixed bits that contradict themselves. Then 8 or 9, word by word
+abbrev pub capabilityRefusal : Capabilities → Features → ℕ
+capabilityRefusal c f = cond (consistent c) (wordsRefusal (c .pairs) f) 6
+
+-- 2: no record holds the session. 1: not fresh. Then those of the capabilities
 unfoldable pub setupRefusal : Session → Capabilities → Features → ℕ
 setupRefusal s c f =
     cond (isUnlawful s) 2
     (cond (not (eqb (s .progress .phase) Phase.FRESH)) 1
-    (cond (consistent c) (wordsRefusal (c .pairs) f) 6))
+    (capabilityRefusal c f))
 
 -- ready, with the fields written and the capabilities kept; registers, queue and counts as they were
 unfoldable pub readied : Session → Arguments → Capabilities → Session

@@ -8,7 +8,7 @@ ghost use Rattle.vmcs.specs.Writes.{applied};
 ghost use Rattle.vcpu_setup.specs.Capability.{halves, fixedWords, pairsOf, oldsOf, capabilitiesOf};
 ghost use Rattle.vcpu_setup.specs.Words.{secondarySet, setupWord, setupWords, bitsRefusal, orElse, wordsRefusal};
 ghost use Rattle.vcpu_setup.specs.Writes.{hostSet, crSet, segmentWrites, segmentsSet, guestSet, controlSet, vmcsSet};
-ghost use Rattle.vcpu_setup.specs.Setup.{pairConsistent, fixedConsistent, consistent, setupRefusal, readied, setupOf};
+ghost use Rattle.vcpu_setup.specs.Setup.{pairConsistent, fixedConsistent, consistent, capabilityRefusal, setupRefusal, readied, setupOf};
 use vcpu_events::Answered;
 use vcpu_session::Capabilities;
 use vcpu_session::Fixed;
@@ -134,7 +134,7 @@ fn olds_of(m: CapabilityMsrs) -> [u32; 5]
     [pin, primary, secondary, exit, entry]
 }
 
-fn capabilities_of(m: CapabilityMsrs) -> Capabilities
+pub fn capabilities_of(m: CapabilityMsrs) -> Capabilities
     ensures { λ r. ⌜ r ≡ capabilitiesOf m ⌝ }
 {
     let pairs = pairs_of(m);
@@ -471,7 +471,18 @@ fn capabilities_consistent(c: Capabilities) -> bool
         & fixed_consistent(c.cr4)
 }
 
-// 2; 1, not fresh; 6, inconsistent capabilities; 8 or 9, a word that cannot be had; or 0.
+// 6, inconsistent capabilities; 8 or 9, a word that cannot be had; or 0.
+pub fn capability_refusal(c: Capabilities, f: Features) -> u32
+    ensures { λ r. ⌜ r ≡ capabilityRefusal c f ⌝ }
+{
+    if capabilities_consistent(c) {
+        let pairs = c.pairs;
+        return words_refusal(pairs, f);
+    }
+    6
+}
+
+// 2; 1, not fresh; then those of the capabilities; or 0.
 fn setup_refusal(s: Session, c: Capabilities, f: Features) -> u32
     ensures { λ r. ⌜ r ≡ setupRefusal s c f ⌝ }
 {
@@ -481,14 +492,11 @@ fn setup_refusal(s: Session, c: Capabilities, f: Features) -> u32
     if s.progress.phase != Phase::FRESH {
         return 1;
     }
-    if capabilities_consistent(c) {
-        let pairs = c.pairs;
-        return words_refusal(pairs, f);
-    }
-    6
+    capability_refusal(c, f)
 }
 
-fn ready(s: Session, a: Arguments, c: Capabilities) -> Session
+// The session of an accepted setup.
+pub fn ready(s: Session, a: Arguments, c: Capabilities) -> Session
     ensures { λ r. ⌜ r ≡ readied s a c ⌝ }
 {
     let fields = s.vmcs;

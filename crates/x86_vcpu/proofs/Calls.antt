@@ -6,7 +6,10 @@ use Prim.Native.Nat.{ℕ}
 use native.Mathlib.Omega.{arith}
 use borrow.Author.Tests.{eq-eqb, ne-eqb}
 use Rattle.vcpu_session.specs.declared.Session.{Session}
-use Rattle.record.specs.Codec.{sessionOf, encodeOf, acceptedOf}
+use Rattle.bits.specs.LittleEndian.{Below}
+use Rattle.record.specs.Codec.{sessionOf, encodeOf, acceptedOf, encoded}
+use Rattle.record_edits.specs.Holds.{Holds}
+use Rattle.record_edits.proofs.Edits.{held-bytes}
 use Rattle.vcpu_session.specs.Session.{Lawful}
 use Rattle.record.specs.Fitting.{Fitting}
 use Rattle.record.proofs.RoundTrip.{session-lawful, accepted-decoded, decode-encode}
@@ -22,23 +25,19 @@ module _ (step : Session → Answered) {b : List ℕ} {r : Bool} (e : r ≡ acce
   unfolding callOf
   no-record f = record { answer = rw (← e, f); decodes = λ z. absurd (omega arith) }
 
-  module _ (ok : r ≡ true) {s : Session} {t : Answered} (read : s ≡ sessionOf b) (made : t ≡ step s) where
-    pub refused : (t .refusal ≡ 0 → ⊥) → Called step b (t .refusal) b
+  module _ (ok : r ≡ true) {n : ℕ} (asked : n ≡ step (sessionOf b) .refusal) where
+    pub refused : (n ≡ 0 → ⊥) → Called step b n b
     unfolding callOf
-    refused other =
-        let n : step (sessionOf b) .refusal ≡ t .refusal = sym (ap (λ (x : Answered). x .refusal) (made ∙ ap step read)) in
-        record { answer = rw (← e, ok, n, ne-eqb (t .refusal) 0 other); decodes = λ z. absurd (other z) }
+    refused other = record { answer = rw (← e, ok, ← asked, ne-eqb n 0 other); decodes = λ z. absurd (other z) }
 
-    pub stored : t .refusal ≡ 0 → {after : List ℕ} → after ≡ encodeOf (t .session) → Fitting (t .session)
-        → ((s : Session) → Lawful s → Lawful (step s .session)) → Called step b 0 after
+    pub edited : n ≡ 0 → {after : List ℕ} → Below 256 after → Holds after (step (sessionOf b) .session) → Called step b 0 after
     unfolding callOf
-    stored zero w fits keeps =
+    edited zero {after} below h =
         let yes : acceptedOf b ≡ true = sym e ∙ ok in
-        let same : step (sessionOf b) ≡ t = sym (made ∙ ap step read) in
-        let law : Lawful (t .session) = rw (← same) (keeps (sessionOf b) (session-lawful b yes)) in
+        let none : step (sessionOf b) .refusal ≡ 0 = sym asked ∙ zero in
         record {
-          answer = rw (yes, same, eq-eqb (t .refusal) 0 zero, w);
-          decodes = λ _. rw (accepted-decoded b yes, same, w) (decode-encode (t .session) fits law);
+          answer = rw (yes, eq-eqb (step (sessionOf b) .refusal) 0 none) (ap (encoded 0) (held-bytes below h));
+          decodes = λ _. rw (accepted-decoded b yes, ← h .session) (accepted-decoded after (h .accepted));
         }
 
 -- ---- the three ends of an entry
@@ -48,22 +47,18 @@ module _ (stack : ℕ) (resumed injection : ℕ) {b : List ℕ} {r : Bool} (e : 
   unfolding entryCall
   entry-no-record f = record { answer = rw (← e, f); decodes = λ z. absurd (omega arith) }
 
-  module _ (ok : r ≡ true) {s : Session} {t : Entered} (read : s ≡ sessionOf b) (made : t ≡ entry s stack) where
-    pub entry-refused : (t .refusal ≡ 0 → ⊥) → EntryCalled stack b resumed injection (t .refusal) b resumed injection
+  module _ (ok : r ≡ true) {n : ℕ} (asked : n ≡ entry (sessionOf b) stack .refusal) where
+    pub entry-refused : (n ≡ 0 → ⊥) → EntryCalled stack b resumed injection n b resumed injection
     unfolding entryCall
-    entry-refused other =
-        let same : entry (sessionOf b) stack ≡ t = sym (made ∙ ap (λ (x : Session). entry x stack) read) in
-        record { answer = rw (← e, ok, same, ne-eqb (t .refusal) 0 other); decodes = λ z. absurd (other z) }
+    entry-refused other = record { answer = rw (← e, ok, ← asked, ne-eqb n 0 other); decodes = λ z. absurd (other z) }
 
-    pub entry-stored : t .refusal ≡ 0 → {after : List ℕ} {x y : ℕ} → after ≡ encodeOf (t .session) → Fitting (t .session)
-        → x ≡ flag (t .resumed) → y ≡ injectionNumber (t .injection)
-        → ((s : Session) → Lawful s → Lawful (entry s stack .session)) → EntryCalled stack b resumed injection 0 after x y
+    pub entry-edited : n ≡ 0 → {after : List ℕ} {x y : ℕ} → Below 256 after → Holds after (entry (sessionOf b) stack .session)
+        → x ≡ flag (entry (sessionOf b) stack .resumed) → y ≡ injectionNumber (entry (sessionOf b) stack .injection) → EntryCalled stack b resumed injection 0 after x y
     unfolding entryCall
-    entry-stored zero w fits p q keeps =
+    entry-edited zero {after} below h p q =
         let yes : acceptedOf b ≡ true = sym e ∙ ok in
-        let same : entry (sessionOf b) stack ≡ t = sym (made ∙ ap (λ (x : Session). entry x stack) read) in
-        let law : Lawful (t .session) = rw (← same) (keeps (sessionOf b) (session-lawful b yes)) in
+        let none : entry (sessionOf b) stack .refusal ≡ 0 = sym asked ∙ zero in
         record {
-          answer = rw (yes, same, eq-eqb (t .refusal) 0 zero, w, p, q);
-          decodes = λ _. rw (accepted-decoded b yes, same, w) (decode-encode (t .session) fits law);
+          answer = rw (yes, eq-eqb (entry (sessionOf b) stack .refusal) 0 none, p, q, ← held-bytes below h);
+          decodes = λ _. rw (accepted-decoded b yes, ← h .session) (accepted-decoded after (h .accepted));
         }

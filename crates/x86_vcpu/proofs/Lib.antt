@@ -2,6 +2,5 @@ pub mod Calls
 pub mod Keeps
 pub mod Cleared
 pub mod SetupCalls
-pub mod FieldCalls
-pub mod EntryRest
+pub mod Steps
 pub mod ReportCalls

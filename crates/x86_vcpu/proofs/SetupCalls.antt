@@ -17,16 +17,17 @@ use Rattle.record.proofs.RoundTrip.{session-lawful, accepted-decoded, decode-en
 use Rattle.setup_block.specs.Block.{argumentsOf, blockAccepted}
 use Rattle.setup_block.specs.Layout as Layout
 use Rattle.vcpu_bitmaps.specs.Bitmaps.{ioBitmapSet, msrBitmapSet}
-use Rattle.vcpu_events.specs.declared.Answered.{Answered}
+use Rattle.vcpu_events.specs.Queue.{answered}
+use Rattle.vcpu_session.specs.Phase as Phase
 use Rattle.vcpu_session.specs.Session.{Lawful}
+use Rattle.vcpu_session.specs.declared.Capabilities.{Capabilities}
 use Rattle.vcpu_session.specs.declared.Session.{Session}
-use Rattle.vcpu_setup.specs.Setup.{setupOf}
+use Rattle.vcpu_session.proofs.LawfulLaws.{of-lawful}
+use Rattle.vcpu_setup.specs.Capability.{capabilitiesOf}
+use Rattle.vcpu_setup.specs.Setup.{capabilityRefusal, setupRefusal, readied, setupOf}
 use Rattle.vcpu_setup.specs.declared.Arguments.{Arguments}
 use Rattle.x86_vcpu.specs.SetupCall.{setupAccepts, setupCall, SetupCalled}
 use Rattle.x86_vcpu.proofs.Keeps.{keeps-setup}
-
-same-step : {s p : Session} {x q : Arguments} {t : Answered} → s ≡ p → x ≡ q → t ≡ setupOf s x → setupOf p q ≡ t
-same-step {p = p} {x = x} read given made = sym (made ∙ ap (λ (y : Session). setupOf y x) read ∙ ap (setupOf p) given)
 
 module _ (bytes block a b msr : List ℕ) {r : Bool} (e : r ≡ setupAccepts bytes block a b msr) where
   pub setup-no-record : r ≡ false → SetupCalled bytes block a b msr 2 bytes a b msr
@@ -45,7 +46,7 @@ module _ (bytes block a b msr : List ℕ) {r : Bool} (e : r ≡ setupAccepts byt
         let q : Bool = eqb (length b) 4096 in
         W.and-l x p (W.and-l (x && p) q (W.and-l (x && p && q) (eqb (length msr) 4096) all))
 
-    is-record : acceptedOf bytes ≡ true
+    pub is-record : acceptedOf bytes ≡ true
     is-record = W.is-true _ (W.and-l (acceptedOf bytes) (blockAccepted block) both)
 
     pub record-length : length bytes ≡ Record.LENGTH
@@ -59,18 +60,39 @@ module _ (bytes block a b msr : List ℕ) {r : Bool} (e : r ≡ setupAccepts byt
         let q : Bool = leb (littleEndian 1 (drop Layout.INVPCID block)) 1 in
         eqb→eq _ _ (W.and-l x p (W.and-l (x && p) q (W.and-l (x && p && q) (leb (littleEndian 1 (drop Layout.XSAVES block)) 1) (W.and-r (acceptedOf bytes) (blockAccepted block) both))))
 
-    module _ {s : Session} {x : Arguments} {t : Answered} (read : s ≡ sessionOf bytes) (given : x ≡ argumentsOf block) (made : t ≡ setupOf s x) where
-      pub setup-refused : (t .refusal ≡ 0 → ⊥) → SetupCalled bytes block a b msr (t .refusal) bytes a b msr
-      unfolding setupCall
-      setup-refused other = record { answer = rw (← e, ok, same-step read given made, ne-eqb (t .refusal) 0 other); decodes = λ z. absurd (other z) }
+    -- the number is found from the phase alone
+    pub setup-early : (sessionOf bytes .progress .phase ≡ Phase.FRESH → ⊥) → SetupCalled bytes block a b msr 1 bytes a b msr
+    unfolding setupCall setupOf setupRefusal
+    setup-early other = record { answer = rw (← e, ok, of-lawful (sessionOf bytes) (session-lawful bytes is-record), ne-eqb _ _ other); decodes = λ z. absurd (omega arith) }
 
-      pub setup-stored : t .refusal ≡ 0 → {after aAfter bAfter msrAfter : List ℕ} → after ≡ encodeOf (t .session) → Fitting (t .session)
+    module _ {x : Arguments} {k : Capabilities} {n : ℕ} (fresh : sessionOf bytes .progress .phase ≡ Phase.FRESH) (given : x ≡ argumentsOf block)
+        (kept : k ≡ capabilitiesOf (x .msrs)) (asked : n ≡ capabilityRefusal k (x .features)) where
+      known : n ≡ setupRefusal (sessionOf bytes) (capabilitiesOf (argumentsOf block .msrs)) (argumentsOf block .features)
+      unfolding setupRefusal
+      known =
+          rw (of-lawful (sessionOf bytes) (session-lawful bytes is-record), eq-eqb _ _ fresh)
+          (asked ∙ ap (λ (c : Capabilities). capabilityRefusal c (x .features)) kept ∙ ap (λ (y : Arguments). capabilityRefusal (capabilitiesOf (y .msrs)) (y .features)) given)
+
+      pub setup-refused : (n ≡ 0 → ⊥) → SetupCalled bytes block a b msr n bytes a b msr
+      unfolding setupCall setupOf
+      setup-refused other = record { answer = rw (← e, ok, ← known, ne-eqb n 0 other, ne-eqb n 0 other); decodes = λ z. absurd (other z) }
+
+      taken : n ≡ 0 → setupOf (sessionOf bytes) (argumentsOf block) ≡ answered 0 (readied (sessionOf bytes) x k)
+      unfolding setupOf
+      taken zero =
+          let same : readied (sessionOf bytes) (argumentsOf block) (capabilitiesOf (argumentsOf block .msrs)) ≡ readied (sessionOf bytes) x k =
+          sym (ap (readied (sessionOf bytes) x) kept ∙ ap (λ (y : Arguments). readied (sessionOf bytes) y (capabilitiesOf (y .msrs))) given) in
+          rw (← known, zero, same)
+
+      pub setup-stored : n ≡ 0 → {s t : Session} → s ≡ sessionOf bytes → t ≡ readied s x k
+          → {after aAfter bAfter msrAfter : List ℕ} → after ≡ encodeOf t → Fitting t
           → aAfter ≡ ioBitmapSet a b .a → bAfter ≡ ioBitmapSet a b .b → msrAfter ≡ msrBitmapSet msr .frame
           → SetupCalled bytes block a b msr 0 after aAfter bAfter msrAfter
       unfolding setupCall
-      setup-stored zero w fits p q m =
-          let law : Lawful (t .session) = rw (← (same-step read given made)) (keeps-setup (argumentsOf block) (sessionOf bytes) (session-lawful bytes is-record)) in
+      setup-stored zero {s} {t} read made w fits p q m =
+          let same : setupOf (sessionOf bytes) (argumentsOf block) ≡ answered 0 t = taken zero ∙ ap (answered 0) (sym (made ∙ ap (λ (y : Session). readied y x k) read)) in
+          let law : Lawful t = rw same at (keeps-setup (argumentsOf block) (sessionOf bytes) (session-lawful bytes is-record)) in
           record {
-            answer = rw (← e, ok, same-step read given made, eq-eqb (t .refusal) 0 zero, w, p, q, m);
-            decodes = λ _. rw (accepted-decoded bytes is-record, same-step read given made, w) (decode-encode (t .session) fits law);
+            answer = rw (← e, ok, same, w, p, q, m);
+            decodes = λ _. rw (accepted-decoded bytes is-record, same, w) (decode-encode t fits law);
           }

@@ -35,11 +35,9 @@ pub extern "C" fn vcpu_get_reg_of_index(bytes: &[u8], index: u64, value: &mut u6
     ensures { λ r. ⌜ record { refusal = r; value = now (value .exit) } ≡ getReg (now (bytes .entry)) index (now (value .entry)) ⌝ }
 {
     if record::accepts(bytes) {
-        if 15 < index {
-            return 23;
-        }
-        if index == 4 {
-            return 23;
+        let refusal = crate::session::register_refusal(index);
+        if refusal != 0 {
+            return refusal;
         }
         *value = record::reg_at(bytes, index as usize);
         0

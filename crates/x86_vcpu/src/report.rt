@@ -2,6 +2,7 @@
 ghost use mathlib.Core.Path.{_≡_};
 ghost use Rattle.x86_vcpu.specs.ReportCall.{reportAccepts, ReportCalled};
 use report_block::Layout;
+use vcpu_session::Phase;
 
 // The bytes are a record and a block of a report.
 fn report_accepts(bytes: &[u8], block: &[u8]) -> bool
@@ -16,15 +17,16 @@ pub extern "C" fn vcpu_exit_report(bytes: &mut [u8], block: &[u8], answer: &mut 
     ensures { λ r. ⌜ ReportCalled (now (bytes .entry)) (now (block .entry)) (now (answer .entry)) r (now (bytes .exit)) (now (answer .exit)) ⌝ }
 {
     if report_accepts(bytes, block) {
-        let s = record::session_at(bytes);
-        let r = report_block::report_at(block);
-        let t = vcpu_report::exit_report(s, r);
-        if t.refusal != 0 {
-            return t.refusal;
+        if record::phase_at(bytes) != Phase::RUNNING {
+            return 1;
         }
-        let what = t.answer;
+        let r = report_block::report_at(block);
+        let refusal = report_edits::report_refusal(bytes, r);
+        if refusal != 0 {
+            return refusal;
+        }
+        let what = report_edits::accept(bytes, r);
         *answer = vcpu_answers::answer_words(what);
-        record::put_session(bytes, t.session);
         0
     } else {
         2

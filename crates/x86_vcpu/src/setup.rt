@@ -1,6 +1,7 @@
 // Setup, from the record, a block of arguments and the three frames.
 ghost use mathlib.Core.Path.{_≡_};
 ghost use Rattle.x86_vcpu.specs.SetupCall.{setupAccepts, SetupCalled};
+use vcpu_session::Phase;
 
 const FRAME_SIZE: usize = 4096;
 
@@ -29,15 +30,20 @@ pub extern "C" fn vcpu_setup(
     ensures { λ r. ⌜ SetupCalled (now (bytes .entry)) (now (block .entry)) (now (a .entry)) (now (b .entry)) (now (msr .entry)) r (now (bytes .exit)) (now (a .exit)) (now (b .exit)) (now (msr .exit)) ⌝ }
 {
     if setup_accepts(bytes, block, a, b, msr) {
-        let s = record::session_at(bytes);
-        let arguments = setup_block::arguments_at(block);
-        let t = vcpu_setup::setup(s, arguments);
-        if t.refusal != 0 {
-            return t.refusal;
+        if record::phase_at(bytes) != Phase::FRESH {
+            return 1;
         }
+        let arguments = setup_block::arguments_at(block);
+        let capabilities = vcpu_setup::capabilities_of(arguments.msrs);
+        let refusal = vcpu_setup::capability_refusal(capabilities, arguments.features);
+        if refusal != 0 {
+            return refusal;
+        }
+        let s = record::session_at(bytes);
+        let t = vcpu_setup::ready(s, arguments, capabilities);
         vcpu_bitmaps::setup_io_bitmap(a, b);
         vcpu_bitmaps::setup_msr_bitmap(msr);
-        record::put_session(bytes, t.session);
+        record::put_session(bytes, t);
         0
     } else {
         2

@@ -14,6 +14,4 @@ setup-refusal-spec =
     (λ c. search (answers, c .if1 .taken, ← c .before .is-unlawful .ensures))
     (λ c. search (answers, c .before .before .if1 .left, ← c .before .before .before .is-unlawful .ensures))
     (λ c κs. search needs)
-    (λ c κs. search needs)
-    (λ c. search (answers, ← c .words-refusal .ensures, c .before .before .if3 .taken, ← c .before .before .before .capabilities-consistent .ensures, c .before .before .before .before .before .before .if1 .left, ← c .before .before .before .before .before .before .before .is-unlawful .ensures))
-    (λ c. search (answers, c .if3 .left, ← c .before .capabilities-consistent .ensures, c .before .before .before .before .if1 .left, ← c .before .before .before .before .before .is-unlawful .ensures)))
+    (λ c. search (answers, ← c .capability-refusal .ensures, c .before .before .before .if1 .left, ← c .before .before .before .before .is-unlawful .ensures)))

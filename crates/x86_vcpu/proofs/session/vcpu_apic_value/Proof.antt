@@ -1,27 +1,41 @@
 -- `x86_vcpu::session::vcpu_apic_value` meets its contract. Assumes nothing.
+use mathlib.Core.Path.{_≡_, sym, _∙_}
+use native.Mathlib.Omega.{arith}
 use borrow.Author.Needs.{needs}
-use Rattle.record.proofs.Accepted.{accepted-length}
 use Rattle.vcpu_access.specs.Access.{apicValue}
-use Rattle.x86_vcpu.proofs.Calls.{no-record, refused, stored}
-use Rattle.x86_vcpu.proofs.Keeps.{keeps-apic}
+use Rattle.record.specs.Codec.{sessionOf}
+use Rattle.x86_vcpu.proofs.Calls.{no-record, refused, edited}
+use Rattle.x86_vcpu.proofs.Steps.{apic-taken}
 use Rattle.x86_vcpu.proofs.session.vcpu_apic_value.Statement.{statement}
 use Rattle.x86_vcpu.proofs.session.vcpu_apic_value.Tie as tie
 
 refuses : tie.Need-returns
 refuses c =
-    let t = c .before .before in
-    let w = t .before .before .before .before in
+    let w = c .before .before .before .before in
+    let ok = c .before .before .before .if1 .taken in
     let a = w .before .before .before .args in
-    refused (λ s. apicValue s (a .value)) (w .accepts .ensures) (t .before .before .before .if1 .taken) (t .before .session-at .ensures) (t .apic-value .ensures) (c .if2 .taken)
+    refused (λ s. apicValue s (a .value)) (w .accepts .ensures) ok (c .before .apic-refusal .ensures (a .value)) (c .if2 .taken)
 
-stores : tie.Need-returns-2
-stores c =
-    let t = c .before .before .before .before .before .before in
-    let w = t .before .before .before .before in
+edits : tie.Need-put-apic-value-requires
+edits c κs =
+    let n = c .before in
+    let w = n .before .before .before .before in
+    let ok = n .before .before .before .if1 .taken in
     let a = w .before .before .before .args in
-    let put = c .before .before .put-session .ensures in
-    stored (λ s. apicValue s (a .value)) (w .accepts .ensures) (t .before .before .before .if1 .taken) (t .before .session-at .ensures) (t .apic-value .ensures) (c .before .before .before .before .if2 .left)
-    (put .0) (put .1) (keeps-apic (a .value))
+    let none = sym (n .before .apic-refusal .ensures (a .value)) ∙ n .if2 .left in
+    sym (w .accepts .ensures) ∙ ok
+
+leaves : tie.Need-returns-2
+leaves c =
+    let p = c .before .before in
+    let n = p .before .before in
+    let w = n .before .before .before .before in
+    let ok = n .before .before .before .if1 .taken in
+    let a = w .before .before .before .args in
+    let asked = n .before .apic-refusal .ensures (a .value) in
+    let none = sym asked ∙ n .if2 .left in
+    edited (λ s. apicValue s (a .value)) (w .accepts .ensures) ok asked (n .if2 .left) (λ i. omega (arith, c .slice-known2 .given i))
+    (rw (apic-taken (sessionOf (a .bytes .now)) (a .value) none) (p .put-apic-value .ensures))
 
 refuses-bytes : tie.Need-returns-3
 refuses-bytes c =
@@ -33,12 +47,11 @@ vcpu-apic-value-spec =
     tie.close
     (tie.spec
     (λ c κs. search needs)
-    (λ c κs. search (accepted-length, needs))
-    (λ c κs. search needs)
+    (λ c κs. sym (c .before .before .accepts .ensures) ∙ c .before .if1 .taken)
     (λ c. search needs)
     refuses
-    (λ c κs. search (accepted-length, needs))
+    edits
     (λ c. search needs)
-    stores
+    leaves
     (λ c. search needs)
     refuses-bytes)

@@ -1,38 +1,44 @@
 -- `x86_vcpu::session::vcpu_write_field` meets its contract. Assumes nothing.
 use mathlib.Core.Path.{_≡_, sym, _∙_}
+use native.Mathlib.Omega.{arith}
 use borrow.Author.Needs.{needs}
-use Rattle.vmcs.specs.Fields.{writeRefusal}
 use Rattle.vmcs.proofs.FieldLaws.{writable}
 use Rattle.vcpu_access.specs.Access.{writeField}
-use Rattle.x86_vcpu.proofs.Calls.{no-record}
-use Rattle.x86_vcpu.proofs.FieldCalls.{refused-field, stored-field}
+use Rattle.record.specs.Codec.{sessionOf}
+use Rattle.record.proofs.RoundTrip.{session-lawful}
+use Rattle.x86_vcpu.proofs.Calls.{no-record, refused, edited}
+use Rattle.x86_vcpu.proofs.Steps.{field-refusal, field-written}
 use Rattle.x86_vcpu.proofs.session.vcpu_write_field.Statement.{statement}
 use Rattle.x86_vcpu.proofs.session.vcpu_write_field.Tie as tie
 
 refuses : tie.Need-returns
 refuses c =
     let w = c .before .before .before in
+    let ok = c .before .before .if1 .taken in
     let a = w .before .before .before .args in
-    refused-field (a .encoding) (a .value) (a .bytes .now) (w .accepts .ensures) (c .before .before .if1 .taken) (c .before .write-refusal .ensures) (c .if2 .taken)
+    refused (λ s. writeField s (a .encoding) (a .value)) (w .accepts .ensures) ok (c .before .write-refusal .ensures ∙ sym (field-refusal (sessionOf (a .bytes .now)) (a .encoding) (a .value) (session-lawful (a .bytes .now) (sym (w .accepts .ensures) ∙ ok)))) (c .if2 .taken)
 
-puts : tie.Need-put-field-requires
-puts c κs =
-    let t = c .before .before .before in
-    let w = t .before .before in
+edits : tie.Need-put-field-requires
+edits c κs =
+    let n = c .before .before in
+    let w = n .before .before .before in
+    let ok = n .before .before .if1 .taken in
     let a = w .before .before .before .args in
-    let ok = sym (t .write-refusal .ensures) ∙ c .before .before .if2 .left in
-    let known = writable (a .encoding) (a .value) ok in
-    (sym (w .accepts .ensures) ∙ t .before .if1 .taken, rw (c .before .position .ensures) (known .0), rw (c .before .position .ensures) (known .1))
+    let none = sym (n .before .write-refusal .ensures ∙ sym (field-refusal (sessionOf (a .bytes .now)) (a .encoding) (a .value) (session-lawful (a .bytes .now) (sym (w .accepts .ensures) ∙ ok)))) ∙ n .if2 .left in
+    let known = writable (a .encoding) (a .value) (sym (n .before .write-refusal .ensures) ∙ n .if2 .left) in
+    (sym (w .accepts .ensures) ∙ ok, rw (c .before .position .ensures) (known .0), rw (c .before .position .ensures) (known .1))
 
-stores : tie.Need-returns-2
-stores c =
-    let p = c .before .before .before .before in
-    let t = p .before .before in
-    let w = t .before .before in
+leaves : tie.Need-returns-2
+leaves c =
+    let p = c .before .before in
+    let n = p .before .before .before in
+    let w = n .before .before .before in
+    let ok = n .before .before .if1 .taken in
     let a = w .before .before .before .args in
-    let put = c .before .before .put-field .ensures in
-    stored-field (a .encoding) (a .value) (a .bytes .now) (w .accepts .ensures) (t .before .if1 .taken) (t .write-refusal .ensures) (p .before .if2 .left)
-    (rw (p .position .ensures) at (put .0)) (rw (p .position .ensures) at (put .1))
+    let asked = n .before .write-refusal .ensures ∙ sym (field-refusal (sessionOf (a .bytes .now)) (a .encoding) (a .value) (session-lawful (a .bytes .now) (sym (w .accepts .ensures) ∙ ok))) in
+    let none = sym asked ∙ n .if2 .left in
+    edited (λ s. writeField s (a .encoding) (a .value)) (w .accepts .ensures) ok asked (n .if2 .left) (λ i. omega (arith, c .slice-known2 .given i))
+    (rw (field-written (sessionOf (a .bytes .now)) (a .encoding) (a .value) (session-lawful (a .bytes .now) (sym (w .accepts .ensures) ∙ ok)) (sym (n .before .write-refusal .ensures) ∙ n .if2 .left), ← (p .before .before .position .ensures)) (p .put-field .ensures))
 
 refuses-bytes : tie.Need-returns-3
 refuses-bytes c =
@@ -48,8 +54,8 @@ vcpu-write-field-spec =
     (λ c. search needs)
     refuses
     (λ c κs. search needs)
-    puts
+    edits
     (λ c. search needs)
-    stores
+    leaves
     (λ c. search needs)
     refuses-bytes)

@@ -1,0 +1,17 @@
+-- `entry_edits::put_stack` meets its contract. Assumes nothing.
+use borrow.Author.Needs.{needs}
+use Rattle.bits.proofs.Tests.{answers}
+use Rattle.vcpu_events.specs.Entry.{withStack}
+use Rattle.entry_edits.proofs.Edits.{unedited, fields}
+use Rattle.entry_edits.proofs.put_stack.Statement.{statement}
+use Rattle.entry_edits.proofs.put_stack.Tie as tie
+
+pub put-stack-spec : {M : Type 1} → statement M
+unfolding withStack
+put-stack-spec =
+    tie.close
+    (tie.spec
+    (λ c. unedited (c .before .before .pre) (search (answers, c .if1 .taken)))
+    (λ c κs. search needs)
+    (λ c. search needs)
+    (λ c. fields _ (c .before .before .put-natural .ensures) (search (answers, c .before .before .before .before .if1 .left))))

@@ -1,0 +1,4 @@
+-- The laws behind the proofs of `record_edits`.
+pub mod Parts
+pub mod Moves
+pub mod Edits

@@ -1,0 +1,2 @@
+-- The laws behind the proofs of `report_edits`.
+pub mod Edits

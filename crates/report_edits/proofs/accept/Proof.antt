@@ -1,0 +1,43 @@
+-- `report_edits::accept` meets its contract: an accepted report has passed 17. Assumes nothing.
+use mathlib.Core.Path.{sym, _∙_}
+use borrow.Author.Needs.{needs}
+use Rattle.vcpu_exit.proofs.Passes.{passes}
+use Rattle.vcpu_report.specs.ExitReport.{accepted}
+use Rattle.record.specs.Codec.{sessionOf}
+use Rattle.report_edits.proofs.accept.Statement.{statement}
+use Rattle.report_edits.proofs.accept.Tie as tie
+
+after-exit-requires : tie.Need-after-exit-requires
+after-exit-requires c κs =
+    let t = c .before .before .before in
+    let start = t .before .before in
+    let a = start .args in
+    (start .pre .0, passes (sessionOf (a .b .now)) (a .r) (start .pre .1) (sym (t .is-failed .ensures) ∙ c .before .before .if1 .left) .sum)
+
+fails : tie.Need-returns
+unfolding accepted
+fails c =
+    let t = c .before .before .before .before in
+    (rw (← t .before .is-failed .ensures, t .if1 .taken), rw (← t .before .is-failed .ensures, t .if1 .taken) (c .before .before .failed-entry .ensures))
+
+exits : tie.Need-returns-2
+unfolding accepted
+exits c =
+    let made = c .before .before .before .before in
+    let t = made .before in (
+      rw (← t .before .is-failed .ensures, t .if1 .left) (made .answer-of .ensures),
+      rw (← t .before .is-failed .ensures, t .if1 .left) (c .before .before .after-exit .ensures),
+    )
+
+pub accept-spec : {M : Type 1} → statement M
+accept-spec =
+    tie.close
+    (tie.spec
+    (λ c κs. search needs)
+    (λ c κs. search needs)
+    (λ c. search needs)
+    fails
+    (λ c κs. search needs)
+    after-exit-requires
+    (λ c. search needs)
+    exits)

@@ -1,0 +1,2 @@
+-- The definitions that the contracts of `report_edits` cite.
+pub mod Stored

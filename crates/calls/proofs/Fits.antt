@@ -47,7 +47,8 @@ use Rattle.vcpu_report.proofs.ReportLaws.{report-laws}
 use Rattle.report_block.specs.Block as Report
 use Rattle.report_block.specs.Block.{reportOf}
 use Rattle.x86_vcpu.specs.Records.{queueStep}
-use Rattle.x86_vcpu.proofs.Keeps.{keeps-queue-step, keeps-interrupt, keeps-field, keeps-register, keeps-apic, keeps-setup, keeps-entry}
+use Rattle.x86_vcpu.proofs.SetupCalls.{keeps-setup}
+use Rattle.calls.proofs.Keeps.{keeps-queue-step, keeps-interrupt, keeps-field, keeps-register, keeps-apic, keeps-entry}
 use Rattle.calls.specs.Reference.{Call, setup, queueEvent, injectInterrupt, entry, exitReport, apicValue, fieldWrite, registerWrite, WellTyped}
 use Rattle.calls.proofs.Choices.{cond-all}
 use Rattle.calls.proofs.Fields.{numbers-set, put-fits, value-fits, applied-fits}

@@ -7,6 +7,7 @@ pub mod Sessions
 pub mod SetupNumbers
 pub mod SetupFits
 pub mod ReportNumbers
+pub mod Keeps
 pub mod RegisterFits
 pub mod ReportFits
 pub mod Fits

@@ -1,5 +1,4 @@
 pub mod Calls
-pub mod Keeps
 pub mod Cleared
 pub mod SetupCalls
 pub mod Steps

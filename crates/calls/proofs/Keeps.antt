@@ -18,17 +18,7 @@ use Rattle.vcpu_events.specs.declared.Injection.{Injection}
 use Rattle.vcpu_events.specs.declared.Injection.the-variants.{Empty, Held, Written}
 use Rattle.vcpu_events.specs.declared.Event.{Event}
 use Rattle.vcpu_access.specs.Access.{writeField, setRegister, apicValue}
-use Rattle.vcpu_setup.specs.Capability.{capabilitiesOf}
-use Rattle.vcpu_setup.specs.Setup.{setupRefusal, readied, setupOf}
-use Rattle.vcpu_setup.specs.declared.Arguments.{Arguments}
-use Rattle.definitions.specs.VmxExitReason as VmxExitReason
-use Rattle.vcpu_exit.specs.Reading.{reasonOf, failed, isApic}
-use Rattle.vcpu_exit.specs.Refusal.{reportRefusal}
-use Rattle.vcpu_exit.specs.declared.Report.{Report}
-use Rattle.vcpu_answers.specs.Answer.{answerOf}
-use Rattle.vcpu_answers.specs.declared.AxVCpuExitReason.the-variants.{Nothing, FailEntry}
-use Rattle.vcpu_report.specs.ExitReport.{phaseAfter, failedEntry, afterExit, reported, accepted, exitReport}
 use Rattle.x86_vcpu.specs.Records.{queueStep}
 
 -- a test that refuses, before the rest
 test : {s : Session} (b : Bool) (n : ℕ) (r : Answered) → Lawful s → (b ≡ false → Lawful (r .session)) → Lawful (cond b (answered n s) r .session)
@@ -69,32 +59,6 @@ unfolding apicValue
 keeps-apic value s l =
     test (isUnlawful s) 2 _ l (λ _.
     test (not (eqb (s .progress .phase) Phase.WAITING)) 1 _ l (λ _. record { phase = omega arith; waiting = l .waiting; held = l .held }))
-
-pub keeps-setup : (a : Arguments) (s : Session) → Lawful s → Lawful (setupOf s a .session)
-unfolding setupOf readied
-keeps-setup a s l = go (eqb (setupRefusal s (capabilitiesOf (a .msrs)) (a .features)) 0)
-  where
-    go : (t : Bool) → Lawful (cond t (answered 0 (readied s a (capabilitiesOf (a .msrs)))) (answered (setupRefusal s (capabilitiesOf (a .msrs)) (a .features)) s) .session)
-    go true = record { phase = omega arith; waiting = l .waiting; held = l .held }
-    go false = l
-
-phase-known : (r : Report) → phaseAfter r ≤ 4
-unfolding phaseAfter
-phase-known r = go (eqb (reasonOf r) VmxExitReason.MSR_READ) (isApic (r .regs .rcx))
-  where
-    go : (x y : Bool) → cond x (cond y Phase.WAITING Phase.READY) Phase.READY ≤ 4
-    go true true = omega arith
-    go true false = omega arith
-    go false y = omega arith
-
-pub keeps-report : (r : Report) (s : Session) → Lawful s → Lawful (exitReport s r .session)
-unfolding exitReport accepted failedEntry afterExit
-keeps-report r s l = go (eqb (reportRefusal s r) 0) (failed r)
-  where
-    go : (x y : Bool) → Lawful (cond x (cond y (reported 0 (FailEntry 0) (failedEntry s r)) (reported 0 (answerOf r) (afterExit s r))) (reported (reportRefusal s r) Nothing s) .session)
-    go true true = record { phase = omega arith; waiting = l .waiting; held = l .held }
-    go true false = record { phase = phase-known r; waiting = l .waiting; held = l .held }
-    go false y = l
 
 -- a test that refuses an entry, before the rest
 entry-test : {s : Session} (b : Bool) (n : ℕ) (r : Entered) → Lawful s → (b ≡ false → Lawful (r .session)) → Lawful (cond b (refusedEntry n s) r .session)

@@ -22,8 +22,8 @@ const BATCHES: usize = 401;
 const HEADING: &str = "\
 One process, the same inputs, the median of 401 batches of each side, the batches taking turns. Nanoseconds a call.
 
-The port: calls of the C archive. Each call tests the record's bytes; most decode it to a session, step, and encode what changed. An exit report also decodes
-a block of 244 bytes, setup one of 257. No call keeps anything between calls.
+The port: calls of the C archive. Each call tests the record's bytes and reads and changes it in place; setup decodes it and writes it back whole. An exit report
+also decodes a block of 244 bytes, setup one of 257. No call keeps anything between calls.
 
 The Rust: the original's functions over arrays, called bare (no record, no block, nothing caught), as a release build has them: without overflow checks, all
 crates optimized together. Its state stays in memory. A field is an array access in place of VMREAD or VMWRITE, an MSR a search of a short list in place of
@@ -461,6 +461,40 @@ fn readings(bench: &mut Bench) {
     });
 }
 
+/// Calls that a step refuses, on an accepted record.
+fn refusals(bench: &mut Bench) {
+    let refused = |name: &str, number: u32| format!("{name} refused by {number}");
+    bench.port.record[record::PHASE] = record::READY;
+    bench.port.waiting(64);
+    bench.lone_row(&refused("queue", 13), 10_000, |port, i| port.queue(14, i as u32) as u64);
+    bench.port.waiting(0);
+    bench.lone_row(&refused("entry", 1), 10_000, |port, i| {
+        let (mut resumed, mut event) = (0, 0);
+        port.record[record::PHASE] = record::RUNNING;
+        port!(vcpu_entry(port.record.as_mut_ptr(), LENGTH, i, &mut resumed, &mut event)) as u64
+    });
+    bench.lone_row(&refused("write of a register", 23), 10_000, |port, i| {
+        port!(vcpu_set_reg_of_index(port.record.as_mut_ptr(), LENGTH, 4, i)) as u64
+    });
+    bench.lone_row(&refused("write of a field", 4), 10_000, |port, i| {
+        port!(vcpu_write_field(port.record.as_mut_ptr(), LENGTH, 0x4402, i)) as u64
+    });
+    bench.port.record[record::PHASE] = record::READY;
+    bench.lone_row(&refused("APIC value", 1), 10_000, |port, i| {
+        port!(vcpu_apic_value(port.record.as_mut_ptr(), LENGTH, i)) as u64
+    });
+    bench.lone_row(&refused("exit report", 1), 10_000, |port, _| port.report() as u64);
+    bench.port.report = usual_report(|r| r.reason = 65).block();
+    bench.lone_row(&refused("exit report", 14), 10_000, |port, _| port.report_running() as u64);
+    bench.port.record[record::PHASE] = record::READY;
+    bench.lone_row(&refused("setup", 1), 10_000, |port, _| {
+        let n = FRAME_BYTES;
+        let [a, b, m] = [&mut port.a, &mut port.b, &mut port.msr].map(|frame| frame.as_mut_ptr());
+        let (r, block) = (port.record.as_mut_ptr(), &port.setup);
+        port!(vcpu_setup(r, LENGTH, block.as_ptr(), block.len(), a, n, b, n, m, n)) as u64
+    });
+}
+
 /// The processor's name, and the load of the last minute.
 fn machine() -> String {
     let read = |path: &str| std::fs::read_to_string(path).unwrap_or_default();
@@ -485,6 +519,7 @@ fn main() {
     reports(&mut bench);
     accesses(&mut bench);
     readings(&mut bench);
+    refusals(&mut bench);
     println!("\nThe goal is a ratio of at most 1.0:");
     for (name, ratio) in &bench.goals {
         println!("- {name}: {ratio:.2}{}", if *ratio <= 1.0 { "" } else { ", missed" });

@@ -125,6 +125,11 @@ MUTATIONS = [
         ("next.held = p.held + 1;", "next.held = p.held;"),
     ),
     *in_file(
+        "accessors/src/lib.rt",
+        ("if 15 < index {", "if 16 < index {"),
+        ("if index == 4 {", "if index == 5 {"),
+    ),
+    *in_file(
         "entry_edits/src/lib.rt",
         ("    if e.coded {\n        return e.code;\n    }\n", ""),
         ("if definitions::vector_has_error_code(e.vector) {\n", "if e.coded {\n"),
@@ -211,8 +216,6 @@ MUTATIONS = [
         ("coded: coded == 1,", "coded: coded == 0,"),
         ("Injection::Held => 1,", "Injection::Held => 2,"),
         ("if 255 < vector {", "if 256 < vector {"),
-        ("if 15 < index {", "if 16 < index {"),
-        ("if index == 4 {", "if index == 5 {"),
         ("put_reg(b, 0, bits::low(value) as u64)", "put_reg(b, 0, value)"),
         ("put_reg(b, 2, bits::high(value) as u64)", "put_reg(b, 2, bits::low(value) as u64)"),
         ("if record::phase_at(b) != Phase::WAITING {", "if record::phase_at(b) == Phase::FRESH {"),

@@ -8,7 +8,7 @@ use regs::GeneralRegisters;
 use regs::RegAnswer;
 
 // 23: index 4, or above 15; or 0.
-fn index_refusal(index: u64) -> u32
+pub fn index_refusal(index: u64) -> u32
     ensures { λ r. ⌜ r ≡ indexRefusal index ⌝ }
 {
     if 15 < index {

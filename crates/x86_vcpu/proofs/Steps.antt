@@ -24,7 +24,8 @@ use Rattle.vcpu_events.specs.declared.Entered.{Entered}
 use Rattle.vcpu_events.specs.declared.Event.{Event}
 use Rattle.vcpu_access.specs.Access.{writeField, setRegister, apicTaken, apicValue}
 use Rattle.record.specs.Codec.{withField}
-use Rattle.x86_vcpu.specs.Records.{queueStep, registerRefusal}
+use Rattle.accessors.specs.Accessors.{indexRefusal}
+use Rattle.x86_vcpu.specs.Records.{queueStep}
 
 -- a test that does not refuse
 pass : (b : Bool) (n : ℕ) (s : Session) (r : Answered) → cond b (answered (suc n) s) r .refusal ≡ 0 → (b ≡ false) × (r .refusal ≡ 0)
@@ -79,8 +80,8 @@ field-written s encoding x l none = rw (of-lawful s l, write-by-refusal, none)
 
 -- ---- a register is written
 
-pub register-refusal : (s : Session) (index x : ℕ) → Lawful s → setRegister s index x .refusal ≡ registerRefusal index
-unfolding setRegister withRegOfIndex registerRefusal
+pub register-refusal : (s : Session) (index x : ℕ) → Lawful s → setRegister s index x .refusal ≡ indexRefusal index
+unfolding setRegister withRegOfIndex indexRefusal
 register-refusal s index x l = rw (of-lawful s l) (go (ltb 15 index) (eqb index 4))
   where
     go : (p q : Bool) → cond p (regWritten 23 (s .regs)) (cond q (regWritten 23 (s .regs)) (regWritten 0 (withReg (s .regs) index x))) .refusal ≡ cond p 23 (cond q 23 0)
@@ -92,21 +93,21 @@ number-pass : (b : Bool) (n m : ℕ) → cond b (suc n) m ≡ 0 → (b ≡ false
 number-pass true n m e = absurd (omega arith)
 number-pass false n m e = (refl, e)
 
-pub register-known : (index : ℕ) → registerRefusal index ≡ 0 → index < 16
-unfolding registerRefusal
+pub register-known : (index : ℕ) → indexRefusal index ≡ 0 → index < 16
+unfolding indexRefusal
 register-known index z =
     let most = ltb-false 15 index (number-pass (ltb 15 index) 22 _ z .0) in
     omega arith
 
-pub register-written : (s : Session) (index x : ℕ) → Lawful s → registerRefusal index ≡ 0 → setRegister s index x .session ≡ withRegs s (withReg (s .regs) index x)
-unfolding setRegister withRegOfIndex registerRefusal
+pub register-written : (s : Session) (index x : ℕ) → Lawful s → indexRefusal index ≡ 0 → setRegister s index x .session ≡ withRegs s (withReg (s .regs) index x)
+unfolding setRegister withRegOfIndex indexRefusal
 register-written s index x l z =
     let first = number-pass (ltb 15 index) 22 _ z in
     let second = number-pass (eqb index 4) 22 0 (first .1) in
     rw (of-lawful s l, first .0, second .0)
 
-pub register-read : (g : GeneralRegisters) (index : ℕ) → regOfIndex g index ≡ cond (eqb (registerRefusal index) 0) (Value (getD (listOf g) index 0)) (Refused (registerRefusal index))
-unfolding regOfIndex registerRefusal
+pub register-read : (g : GeneralRegisters) (index : ℕ) → regOfIndex g index ≡ cond (eqb (indexRefusal index) 0) (Value (getD (listOf g) index 0)) (Refused (indexRefusal index))
+unfolding regOfIndex indexRefusal
 register-read g index = go (ltb 15 index) (eqb index 4)
   where
     go : (p q : Bool) → cond p (Refused 23) (cond q (Refused 23) (Value (getD (listOf g) index 0)))

@@ -33,10 +33,6 @@ unfoldable pub queueStep : ℕ → ℕ → ℕ → Session → Answered
 queueStep vector coded code s =
     cond (ltb 1 coded) (answered 2 s) (queueEvent s (record { vector = vector; coded = eqb coded 1; code = code }))
 
--- 23: index 4, the place of RSP, or above 15
-unfoldable pub registerRefusal : ℕ → ℕ
-registerRefusal index = cond (ltb 15 index) 23 (cond (eqb index 4) 23 0)
-
 -- ---- entry: what it answers goes to two results, which a refused entry leaves as they were
 
 pub record EntryCall : Type 0 where

@@ -35,7 +35,7 @@ pub extern "C" fn vcpu_get_reg_of_index(bytes: &[u8], index: u64, value: &mut u6
     ensures { λ r. ⌜ record { refusal = r; value = now (value .exit) } ≡ getReg (now (bytes .entry)) index (now (value .entry)) ⌝ }
 {
     if record::accepts(bytes) {
-        let refusal = crate::session::register_refusal(index);
+        let refusal = accessors::index_refusal(index);
         if refusal != 0 {
             return refusal;
         }

@@ -8,7 +8,7 @@ ghost use Rattle.vcpu_events.specs.Entry.{injectionNumber};
 ghost use Rattle.vcpu_access.specs.Access.{writeField, setRegister, apicTaken, apicValue};
 ghost use Rattle.record.specs.Codec.{sessionOf, acceptedOf};
 ghost use Rattle.record_edits.specs.Holds.{Holds};
-ghost use Rattle.x86_vcpu.specs.Records.{Called, queueStep, registerRefusal, EntryCalled, newCall};
+ghost use Rattle.x86_vcpu.specs.Records.{Called, queueStep, EntryCalled, newCall};
 use record::Record;
 use vcpu_events::Event;
 use vcpu_events::Injection;
@@ -117,26 +117,13 @@ pub extern "C" fn vcpu_write_field(bytes: &mut [u8], encoding: u64, value: u64) 
     }
 }
 
-// 23: index 4, the place of RSP, or above 15.
-pub fn register_refusal(index: u64) -> u32
-    ensures { λ r. ⌜ r ≡ registerRefusal index ⌝ }
-{
-    if 15 < index {
-        return 23;
-    }
-    if index == 4 {
-        return 23;
-    }
-    0
-}
-
 // Writes a register by its index: refusals 2, 23.
 #[no_mangle]
 pub extern "C" fn vcpu_set_reg_of_index(bytes: &mut [u8], index: u64, value: u64) -> u32
     ensures { λ r. ⌜ Called (λ s. setRegister s index value) (now (bytes .entry)) r (now (bytes .exit)) ⌝ }
 {
     if record::accepts(bytes) {
-        let refusal = register_refusal(index);
+        let refusal = accessors::index_refusal(index);
         if refusal != 0 {
             return refusal;
         }

@@ -17,10 +17,10 @@ vcpu-get-reg-of-index-spec =
     (λ c κs. search needs)
     (λ c.
     let t = c .before .before in
-    rw (← (t .before .accepts .ensures), t .if1 .taken, register-read, ← (c .before .register-refusal .ensures), ne-eqb _ _ (c .if2 .taken)))
-    (λ c κs. (accepted-length _ _ (c .before .before .before .accepts .ensures) (c .before .before .if1 .taken), register-known _ (sym (c .before .register-refusal .ensures) ∙ c .if2 .left)))
+    rw (← (t .before .accepts .ensures), t .if1 .taken, register-read, ← (c .before .index-refusal .ensures), ne-eqb _ _ (c .if2 .taken)))
+    (λ c κs. (accepted-length _ _ (c .before .before .before .accepts .ensures) (c .before .before .if1 .taken), register-known _ (sym (c .before .index-refusal .ensures) ∙ c .if2 .left)))
     (λ c.
     let n = c .before in
     let t = n .before .before in
-    rw (← (t .before .accepts .ensures), t .if1 .taken, register-read, ← (n .before .register-refusal .ensures), eq-eqb _ _ (n .if2 .left), c .reg-at .ensures))
+    rw (← (t .before .accepts .ensures), t .if1 .taken, register-read, ← (n .before .index-refusal .ensures), eq-eqb _ _ (n .if2 .left), c .reg-at .ensures))
     (λ c. rw (← (c .before .accepts .ensures), c .if1 .left)))

@@ -15,7 +15,7 @@ refuses c =
     let w = c .before .before .before in
     let ok = c .before .before .if1 .taken in
     let a = w .before .before .before .args in
-    refused (λ s. setRegister s (a .index) (a .value)) (w .accepts .ensures) ok (c .before .register-refusal .ensures ∙ sym (register-refusal (sessionOf (a .bytes .now)) (a .index) (a .value) (session-lawful (a .bytes .now) (sym (w .accepts .ensures) ∙ ok)))) (c .if2 .taken)
+    refused (λ s. setRegister s (a .index) (a .value)) (w .accepts .ensures) ok (c .before .index-refusal .ensures ∙ sym (register-refusal (sessionOf (a .bytes .now)) (a .index) (a .value) (session-lawful (a .bytes .now) (sym (w .accepts .ensures) ∙ ok)))) (c .if2 .taken)
 
 edits : tie.Need-put-reg-requires
 edits c κs =
@@ -23,8 +23,8 @@ edits c κs =
     let w = n .before .before .before in
     let ok = n .before .before .if1 .taken in
     let a = w .before .before .before .args in
-    let none = sym (n .before .register-refusal .ensures ∙ sym (register-refusal (sessionOf (a .bytes .now)) (a .index) (a .value) (session-lawful (a .bytes .now) (sym (w .accepts .ensures) ∙ ok)))) ∙ n .if2 .left in
-    (sym (w .accepts .ensures) ∙ ok, register-known (a .index) (sym (n .before .register-refusal .ensures) ∙ n .if2 .left))
+    let none = sym (n .before .index-refusal .ensures ∙ sym (register-refusal (sessionOf (a .bytes .now)) (a .index) (a .value) (session-lawful (a .bytes .now) (sym (w .accepts .ensures) ∙ ok)))) ∙ n .if2 .left in
+    (sym (w .accepts .ensures) ∙ ok, register-known (a .index) (sym (n .before .index-refusal .ensures) ∙ n .if2 .left))
 
 leaves : tie.Need-returns-2
 leaves c =
@@ -33,10 +33,10 @@ leaves c =
     let w = n .before .before .before in
     let ok = n .before .before .if1 .taken in
     let a = w .before .before .before .args in
-    let asked = n .before .register-refusal .ensures ∙ sym (register-refusal (sessionOf (a .bytes .now)) (a .index) (a .value) (session-lawful (a .bytes .now) (sym (w .accepts .ensures) ∙ ok))) in
+    let asked = n .before .index-refusal .ensures ∙ sym (register-refusal (sessionOf (a .bytes .now)) (a .index) (a .value) (session-lawful (a .bytes .now) (sym (w .accepts .ensures) ∙ ok))) in
     let none = sym asked ∙ n .if2 .left in
     edited (λ s. setRegister s (a .index) (a .value)) (w .accepts .ensures) ok asked (n .if2 .left) (λ i. omega (arith, c .slice-known2 .given i))
-    (rw (register-written (sessionOf (a .bytes .now)) (a .index) (a .value) (session-lawful (a .bytes .now) (sym (w .accepts .ensures) ∙ ok)) (sym (n .before .register-refusal .ensures) ∙ n .if2 .left)) (p .put-reg .ensures))
+    (rw (register-written (sessionOf (a .bytes .now)) (a .index) (a .value) (session-lawful (a .bytes .now) (sym (w .accepts .ensures) ∙ ok)) (sym (n .before .index-refusal .ensures) ∙ n .if2 .left)) (p .put-reg .ensures))
 
 refuses-bytes : tie.Need-returns-3
 refuses-bytes c =

@@ -1,7 +1,7 @@
 /*
  * A small host: what a hypervisor does around the core, with the processor played by the numbers below. It makes a session, sets it up from a
  * processor's capability words (and shows one whose words are refused), edits intercepts, queues events, enters, reports an exit of each kind of
- * answer, and prints what happens.
+ * answer, and prints what happens. A real host writes the fields to the processor's VMCS before each entry and fills the whole report from it.
  */
 #include "x86_vcpu.h"
 
@@ -122,7 +122,7 @@ int main(void)
     printf("setup: %" PRIu32 "\n", setup(words[8]));
     printf("CR0 0x%" PRIX64 ", its mask 0x%" PRIX64 ", EPT pointer 0x%" PRIX64 "\n", field(0x6800), field(0x6000), field(0x201A));
 
-    /* The signing-card reader's ports, and reads of IA32_EFER. */
+    /* The ports of a device that this host emulates (0x2F8 to 0x2FF, the second serial port), and reads of IA32_EFER. */
     printf("intercept ports 0x2F8 to 0x2FF: %" PRIu32 "\n", vcpu_set_io_intercept_of_range(io_a, sizeof io_a, io_b, sizeof io_b, 0x2F8, 8, 1));
     printf("intercept reads of MSR 0xC0000080: %" PRIu32 "\n", vcpu_set_read_intercept(msrs, sizeof msrs, 0xC0000080, 1));
 

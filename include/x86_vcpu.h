@@ -4,9 +4,12 @@
  * Every function answers 0 where the call is accepted, or the number of the refusal (VCPU_REFUSED_..). A refused call writes
  * nothing: every buffer and result keeps its bytes. Numbers are tested in the order that each function's comment gives.
  *
- * A buffer is a pointer and its length in bytes. The pointer is not null where the length is not 0, no two buffers of one call
- * overlap, and nobody else writes them during the call. A result goes through a pointer that is not null and is aligned for its
- * type. The functions keep nothing between calls, allocate nothing and call nothing of the host's.
+ * A buffer is a pointer, which is not null, and its length in bytes. A result goes through a pointer that is not null and is aligned
+ * for its type. No two buffers or results of one call overlap, and nobody else writes them during the call.
+ *
+ * The functions keep nothing between calls and allocate nothing. Of the program that the archive is linked into they need memcpy,
+ * memmove and memset. Their code uses the XMM registers: a host that leaves the guest's in the processor saves them before a call
+ * and loads them again before it enters.
  *
  * A yes/no argument is a byte: 1 is yes, 0 is no, and any other value is refused by VCPU_REFUSED_BYTES.
  */
@@ -37,9 +40,9 @@ extern "C" {
 #define VCPU_REFUSED_PAIR 6
 /* Control word: a bit is to be both set and cleared. */
 #define VCPU_REFUSED_SET_AND_CLEAR 7
-/* Control word: a bit to be set is not in allowed-1. */
+/* Control word and setup: a bit to be set is not in allowed-1. Reports: a move to CR0 turns paging on, and entry control bit 9 is not in allowed-1. */
 #define VCPU_REFUSED_SET 8
-/* Control word: a bit to be cleared is in allowed-0. */
+/* Control word and setup: a bit to be cleared is in allowed-0. */
 #define VCPU_REFUSED_CLEAR 9
 /* Ports: count is above 0 and the last port is above 65,535. */
 #define VCPU_REFUSED_PORT 10
@@ -50,7 +53,7 @@ extern "C" {
 #define VCPU_REFUSED_VECTOR 12
 /* Events: 64 events wait already. */
 #define VCPU_REFUSED_FULL 13
-/* Reports: no such reason (above 64, 35, 38, 42), or a failed entry of a reason other than 33, 34 and 41. */
+/* Reports: the reason (bits 0 to 15) is 35, 38, 42 or above 64, or bit 31 (a failed entry) is set and it is not 33, 34 or 41. */
 #define VCPU_REFUSED_REASON 14
 /* Reports: a bit of CR0 or CR4 that the host owns (guest/host mask) differs from the session's. */
 #define VCPU_REFUSED_OWNED_BITS 15
@@ -116,6 +119,12 @@ extern "C" {
 
 /* ---- Sessions ----
  * A record is tested whole before anything else: every function that takes one answers VCPU_REFUSED_BYTES first.
+ *
+ * The record holds the values of the VMCS fields and the guest's registers; the host carries them to the processor. After vcpu_setup it writes
+ * the 93 fields that setup writes (crates/vcpu_setup/specs/Writes.antt). After vcpu_entry: at the first entry host RSP (0x6C14); for a held event
+ * the primary controls (0x4002); for a written one 0x4016, 0x4018 and 0x401A. After vcpu_exit_report: RIP (0x681E); at reason 7 the primary
+ * controls; at reason 52 the preemption timer (0x482E); at reason 28 CR0 or CR4, its read shadow and its mask (0x6800, 0x6004, 0x6000 or 0x6804,
+ * 0x6006, 0x6002), EFER (0x2806) and the entry controls (0x4012).
  */
 
 /*
@@ -245,7 +254,10 @@ uint32_t vcpu_entry(uint8_t *record, size_t length, uint64_t host_stack, uint8_t
 #define VCPU_ANSWER_NOTHING 0
 /* VMCALL: RAX, then the arguments RDI, RSI, RDX, RCX, R8, R9. */
 #define VCPU_ANSWER_HYPERCALL 1
-/* IN: port, width in bytes (1, 2 or 4). The host brings the value to RAX with vcpu_set_reg_of_index. */
+/*
+ * IN: port, width in bytes (1, 2 or 4). The host brings the value to RAX (index 0) with vcpu_set_reg_of_index, which writes all of it: for widths
+ * 1 and 2 the other bytes are those that RAX had.
+ */
 #define VCPU_ANSWER_IO_READ 2
 /* OUT: port, width, data. */
 #define VCPU_ANSWER_IO_WRITE 3
@@ -253,19 +265,20 @@ uint32_t vcpu_entry(uint8_t *record, size_t length, uint64_t host_stack, uint8_t
 #define VCPU_ANSWER_SYSTEM_DOWN 4
 /* An interrupt for the host: vector. */
 #define VCPU_ANSWER_EXTERNAL_INTERRUPT 5
-/* RDMSR: all of RCX. WRMSR: all of RCX, EDX:EAX. RIP is not advanced. */
+/* RDMSR: all of RCX. WRMSR: all of RCX, EDX:EAX. RIP is not advanced: the host writes the field 0x681E. */
 #define VCPU_ANSWER_SYS_REG_READ 6
 #define VCPU_ANSWER_SYS_REG_WRITE 7
 /* RDMSR of an APIC register: MSR. The session waits for vcpu_apic_value. WRMSR of one: MSR, EDX:EAX. */
 #define VCPU_ANSWER_APIC_READ 8
 #define VCPU_ANSWER_APIC_WRITE 9
-/* An exit that the core does not deal with. */
+/* An exit that the core does not deal with, a string or repeated I/O instruction too. */
 #define VCPU_ANSWER_HALT 10
-/* The entry failed: 0. The session is ended. */
+/* The entry failed (its value is 0): why is in the fields of exit reason and qualification. The session is ended. */
 #define VCPU_ANSWER_FAIL_ENTRY 11
 
 /*
- * Takes what an exit reports and answers what the host is to do. The session is then ready, waiting or ended.
+ * Takes what an exit reports and answers what the host is to do. The session is then ready, waiting or ended; a refused report leaves it running.
+ * RIP is advanced past CPUID, VMCALL, moves to CR0 and CR4, every I/O instruction and accesses of APIC registers, and at no other exit.
  * Refusals: VCPU_REFUSED_BYTES (record or block), VCPU_REFUSED_PHASE (not running), VCPU_REFUSED_REASON, VCPU_REFUSED_OWNED_BITS,
  * VCPU_REFUSED_INTERRUPT, VCPU_REFUSED_CR_ACCESS, VCPU_REFUSED_XCR, VCPU_REFUSED_XCR0, VCPU_REFUSED_APIC_ACCESS, VCPU_REFUSED_SUM, VCPU_REFUSED_SET.
  */
@@ -291,11 +304,17 @@ uint32_t vcpu_write_field(uint8_t *record, size_t length, uint64_t encoding, uin
 uint32_t vcpu_get_reg_of_index(const uint8_t *record, size_t length, uint64_t index, uint64_t *value);
 uint32_t vcpu_set_reg_of_index(uint8_t *record, size_t length, uint64_t index, uint64_t value);
 
-/* Where the session stands: its phase, whether it was launched, how many events wait, its accepted entries, those that held an event. */
+/*
+ * Where the session stands: its phase, whether it was launched, how many events wait, its accepted entries, those that held an event.
+ * Refusals: VCPU_REFUSED_BYTES.
+ */
 uint32_t vcpu_get_counts(const uint8_t *record, size_t length, uint8_t *phase, uint8_t *launched, uint8_t *waiting, uint32_t *entries,
                          uint32_t *held);
 
-/* The mode of the guest's CPU, told by the host's IA32_EFER (LMA), the guest's CS access rights and CR0. */
+/*
+ * The mode of the guest's CPU, told by the host's IA32_EFER (LMA), the guest's CS access rights and CR0.
+ * Refusals: VCPU_REFUSED_BYTES.
+ */
 #define VCPU_MODE_REAL 0
 #define VCPU_MODE_PROTECTED 1
 #define VCPU_MODE_COMPATIBILITY 2
@@ -304,7 +323,9 @@ uint32_t vcpu_get_cpu_mode(const uint8_t *record, size_t length, uint64_t host_e
 
 /*
  * What a walk of the guest's page tables starts from: CR3, the number of levels (0 without paging, 2, 3 or 4), how many bits of an address
- * each level takes, and VCPU_WALK_ flags.
+ * each level takes (0, 10, 9 or 9), and VCPU_WALK_ flags: the access is the user's (SS has DPL 3), CR4.PSE with 2 levels and else 1, CR0.WP,
+ * EFER.NXE (0 with 2 levels), CR4.SMAP, CR4.SMEP. VCPU_WALK_WRITE and VCPU_WALK_FETCH are never set: the host knows its access.
+ * Refusals: VCPU_REFUSED_BYTES.
  */
 #define VCPU_WALK_USER 1
 #define VCPU_WALK_WRITE 2
@@ -325,7 +346,7 @@ uint32_t vcpu_gla2gva(const uint8_t *record, size_t length, uint64_t host_efer, 
 /* ---- Control words ---- */
 
 /*
- * Computes a VMX control word (SDM 3C, 31.5.1, algorithm 3). allowed0 and allowed1 are the low and the high half of the control's
+ * Computes a VMX control word (SDM 3D, A.2 to A.5; the Rust cites 31.5.1, algorithm 3, of an older edition). allowed0 and allowed1 are the low and the high half of the control's
  * capability MSR, old is the present word. *word gets allowed0, plus the bits of set, plus those bits of old that the processor leaves
  * open and that are in neither set nor clear.
  * Refusals: VCPU_REFUSED_PAIR, VCPU_REFUSED_SET_AND_CLEAR, VCPU_REFUSED_SET, VCPU_REFUSED_CLEAR.

@@ -2,6 +2,9 @@
 //!
 //! A `Session` holds the record's bytes and `Frames` the three intercept frames. Every call answers the core's refusal by its number; a refused
 //! call changes nothing.
+//!
+//! Every `unsafe` block below is one call of the archive. What include/x86_vcpu.h asks of a caller holds in each: a pointer and its length are those of one
+//! array that is borrowed for the call, a result is a local variable, and no two of them overlap.
 #![no_std]
 
 pub mod blocks;

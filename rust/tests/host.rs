@@ -119,11 +119,41 @@ fn refusals_have_their_numbers() {
     assert_eq!(session.apic_value(0).map_err(number), Err(1));
     assert_eq!(frames.set_io_intercept_of_range(65535, 2, true).map_err(number), Err(10));
     assert_eq!(frames.set_read_intercept(0x2000, true).map_err(number), Err(11));
+    assert_eq!(frames.set_write_intercept(0xC0002000, true).map_err(number), Err(11));
+    assert_eq!(frames.set_msr_intercept_of_range(0xBFFFFFFF, true).map_err(number), Err(11));
+    session.write_field(0x6808, 1).unwrap();
+    assert_eq!(session.gla2gva(0, u64::MAX).map_err(number), Err(17));
     assert_eq!(set_control(0x16, 0x7F, 0x16, 9, 0), Ok(0x1F));
     assert_eq!(set_control(0x16, 0x7F, 0x16, 1, 1).map_err(number), Err(7));
     let mut bytes = [0; RECORD_LENGTH];
     bytes[0] = 5;
     assert_eq!(Session::from_bytes(bytes).map_err(number), Err(2));
+}
+
+#[test]
+fn each_edit_sets_and_clears_its_own_bits() {
+    let mut frames = Frames::new();
+    let bits = |frames: &Frames| [frames.msr.0[0], frames.msr.0[2048], frames.io_a.0[1], frames.io_b.0[0]];
+    frames.set_read_intercept(1, true).unwrap();
+    assert_eq!(bits(&frames), [2, 0, 0, 0]);
+    frames.set_write_intercept(2, true).unwrap();
+    assert_eq!(bits(&frames), [2, 4, 0, 0]);
+    frames.set_msr_intercept_of_range(3, true).unwrap();
+    assert_eq!(bits(&frames), [10, 12, 0, 0]);
+    frames.set_msr_intercept_of_range(1, false).unwrap();
+    assert_eq!(bits(&frames), [8, 12, 0, 0]);
+    frames.set_io_intercept_of_range(8, 1, true).unwrap();
+    frames.set_io_intercept_of_range(0x8000, 2, true).unwrap();
+    assert_eq!(bits(&frames), [8, 12, 1, 3]);
+}
+
+#[test]
+fn kept_bytes_are_the_session() {
+    let (mut session, _) = ready();
+    session.queue_event(14, Some(2)).unwrap();
+    session.set_reg_of_index(3, 7).unwrap();
+    let again = Session::from_bytes(*session.as_bytes()).unwrap();
+    assert_eq!((&again, again.reg_of_index(3), again.counts()), (&session, Ok(7), session.counts()));
 }
 
 #[test]

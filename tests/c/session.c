@@ -109,7 +109,7 @@ static void random_lawful(uint8_t *r)
         set_field(r, 0x4824, 0);
 }
 
-/* Bytes that are mostly a record: 0 lawful, 1 with a byte or two changed, 2 random; the length, at times a wrong one. */
+/* Bytes that are mostly a record: of ten, one is random, two have one to three bytes changed, one has at times a wrong length; the length is answered. */
 static size_t bytes(uint8_t *r)
 {
     unsigned kind = below(10), i;

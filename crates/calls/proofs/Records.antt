@@ -25,7 +25,7 @@ use Rattle.record.specs.Codec.{sessionOf, encodeOf, acceptedOf, Encoded}
 use Rattle.record.specs.Fitting.{Fitting}
 use Rattle.record.specs.declared.Decoded.{Decoded}
 use Rattle.record.proofs.RoundTrip.{lawful-accepted, accepted-decoded, refused-decoded, decode-encode, faithful}
-use Rattle.x86_vcpu.specs.Records.{callOf, queueStep, EntryCall, entryCall, refusedCall, FramesCall, framesCall}
+use Rattle.x86_vcpu.specs.Records.{callOf, queueStep, EntryCall, entryCall, entryAnswer, FramesCall, framesCall}
 use Rattle.vcpu_answers.specs.Answer.{answerWords}
 use Rattle.vcpu_report.specs.ExitReport as Exit
 use Rattle.vcpu_report.specs.declared.Reported.{Reported}
@@ -119,8 +119,8 @@ entry-results stack resumed injection b =
     made x y t u =
         cond t
         (cond u (record { refusal = 0; bytes = encodeOf (o .session); resumed = flag (o .resumed); injection = injectionNumber (o .injection) })
-        (refusedCall (o .refusal) b x y))
-        (refusedCall 2 b x y)
+        (entryAnswer (o .refusal) b x y))
+        (entryAnswer 2 b x y)
 
     go : (t u : Bool) → eqb (o .refusal) 0 ≡ u
         → (made resumed injection t u .refusal ≡ made 0 0 t u .refusal) × (made resumed injection t u .bytes ≡ made 0 0 t u .bytes)

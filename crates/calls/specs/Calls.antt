@@ -1,5 +1,5 @@
--- A list of calls on one session's byte record, each as the exported function's contract gives it, and what is read off the list: demand 3's
--- other side. Assumes nothing.
+-- A list of calls on one session's byte record, each as the exported function's contract gives it, and what is counted and listed of them: what demand 3
+-- compares with the reference. Assumes nothing.
 use Prim.Native.Nat.{ℕ, _+_}
 use mathlib.Core.Path.{_≡_}
 use mathlib.Core.Bool.{Bool, true, false, cond, not, _||_}
@@ -76,7 +76,7 @@ eventsOf (v ∷ vs) (b ∷ bs) (c ∷ cs) = eventOf v b c ∷ eventsOf vs bs cs
 abbrev pub waitingOf : Session → List Event
 waitingOf s = take (s .queue .waiting) (eventsOf (s .queue .vectors) (s .queue .coded) (s .queue .codes))
 
--- once the events `before` are injected
+-- what the reference has of a session, once the events `before` are injected
 abbrev pub viewOf : List Event → Session → Reference
 viewOf before s =
     record {
@@ -185,7 +185,7 @@ abbrev pub holds : List Logged → ℕ
 holds [] = 0
 holds (l ∷ ls) = heldBy (l .answer) + holds ls
 
--- whether a raw write of the field with this encoding was accepted
+-- the call is a raw write of the field with this encoding
 abbrev pub writesField : ℕ → Call → Bool
 writesField x (setup block a b msr) = false
 writesField x (queueEvent vector coded code) = false

@@ -258,7 +258,7 @@ abbrev pub Refuses : List Rule → ℕ → Type 0
 Refuses [] n = n ≡ 0
 Refuses (r ∷ rs) n = (r .applies × (n ≡ r .number)) ⊎ ((r .applies → ⊥) × Refuses rs n)
 
--- 2: each buffer of setup has its length, and its yes/no bytes are 0 or 1
+-- 2 is its negation: each buffer of setup has its length, and its yes/no bytes are 0 or 1
 pub record Buffers (block a b msr : List ℕ) : Type 0 where
   pub long : length block ≡ Layout.LENGTH
   pub rdtscp : littleEndian 1 (drop Layout.RDTSCP block) ≤ 1
@@ -268,7 +268,7 @@ pub record Buffers (block a b msr : List ℕ) : Type 0 where
   pub io-b : length b ≡ 4096
   pub msrs : length msr ≡ 4096
 
--- 6: what must be 1 may be 1, in each pair (allowed-0 is the low half, allowed-1 the high one) and in CR0 and CR4
+-- 6 is its negation: what must be 1 may be 1, in each pair (allowed-0 is the low half, allowed-1 the high one) and in CR0 and CR4
 pub record Consistent (m : CapabilityMsrs) : Type 0 where
   pub pin : Within (low32 (m .truepinbased)) (high32 (m .truepinbased))
   pub primary : Within (low32 (m .trueprocbased)) (high32 (m .trueprocbased))

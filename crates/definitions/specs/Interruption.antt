@@ -42,7 +42,8 @@ hasErrorCode vector =
     || eqb vector Irq.STACK_SEGEMENT_FAULT_VECTOR || eqb vector Irq.GENERAL_PROTECTION_FAULT_VECTOR || eqb vector Irq.PAGE_FAULT_VECTOR
     || eqb vector Irq.ALIGNMENT_CHECK_VECTOR
 
--- the other vectors to 20 are hardware exceptions, 21 to 31 are of the type "other event", the rest external interrupts
+-- vector 1 has type 5 as in the Rust, against the manual (document 01); the other vectors to 20 are hardware exceptions, 21 to 31 are of the type
+-- "other event", the rest external interrupts
 unfoldable pub fromVector : ℕ → VmxInterruptionType
 fromVector vector =
     cond (eqb vector Irq.DEBUG_VECTOR) PrivSoftException

@@ -41,9 +41,12 @@ passed b ok =
       coded = t5 .1;
     }
 
--- a record that `accepts` answered for has its length: an entry for `search`
+-- an accepted record has its length, also where `accepts` answered for it: entries for `search`
+pub whole : (b : List ℕ) → acceptedOf b ≡ true → length b ≡ Record.LENGTH
+whole b ok = passed b ok .whole
+
 pub accepted-length : (b : List ℕ) (r : Bool) → r ≡ acceptedOf b → r ≡ true → length b ≡ Record.LENGTH
-accepted-length b r e t = passed b (sym e ∙ t) .whole
+accepted-length b r e t = whole b (sym e ∙ t)
 
 -- ---- in ≤ and ≡ alone
 

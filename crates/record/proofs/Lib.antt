@@ -4,5 +4,6 @@ pub mod Loops
 pub mod Owned
 pub mod Flags
 pub mod Codecs
+pub mod Capabilities
 pub mod Accepted
 pub mod RoundTrip

@@ -27,7 +27,7 @@ use Rattle.record.proofs.Stores.{sets-whole}
 use Rattle.record.proofs.Parts.{total, starts, cut, length-flatten, stored-parts, from-part, joined}
 use Rattle.record.proofs.Loops.{length-readAll}
 use Rattle.record.proofs.Flags.{each-flag, flag-written, flags-written}
-use Rattle.record.proofs.Accepted.{passed, acceptable, accepts-acceptable}
+use Rattle.record.proofs.Accepted.{passed, whole, acceptable, accepts-acceptable}
 use Rattle.record.proofs.Codecs.{Codec, run, number, numbers-codec, registers-read, yes-no, flags, pair, fixed}
 
 -- how many bytes each part has
@@ -211,6 +211,10 @@ session-lawful b ok =
     let t = passed b ok in
     record { phase = t .phase; waiting = t .waiting; held = t .held }
 
+-- no call on an accepted record is refused by 2
+pub never-unlawful : (b : List ℕ) → acceptedOf b ≡ true → isUnlawful (sessionOf b) ≡ false
+never-unlawful b ok = of-lawful (sessionOf b) (session-lawful b ok)
+
 -- ---- what is decoded
 
 pub accepted-decoded : (b : List ℕ) → acceptedOf b ≡ true → decodeOf b ≡ decoded 0 (sessionOf b)
@@ -277,9 +281,9 @@ faithful =
       decode-encode = λ s f l. decode-encode s f (lawful-of s l);
       encode-decode = λ b below e.
           let ok = decoded-accepted b e in
-          rw (accepted-decoded b ok) (record-written b (passed b ok .whole) below ok);
-      lawful = every-decoded (λ s. isUnlawful s ≡ false) (λ b below ok. of-lawful (sessionOf b) (session-lawful b ok));
-      fitting = every-decoded Fitting (λ b below ok. session-fits b (passed b ok .whole) below);
+          rw (accepted-decoded b ok) (record-written b (whole b ok) below ok);
+      lawful = every-decoded (λ s. isUnlawful s ≡ false) (λ b below ok. never-unlawful b ok);
+      fitting = every-decoded Fitting (λ b below ok. session-fits b (whole b ok) below);
       sized = every-decoded (λ s. Sized (s .vmcs)) (λ b below ok. session-sized b);
       accepted = λ b a. rw (accepted-decoded b (accepts-acceptable b a));
       acceptable = λ b e. acceptable b (decoded-accepted b e);

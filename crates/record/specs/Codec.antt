@@ -96,7 +96,7 @@ encodeOf s = flatten (partsOf s)
 
 -- ---- which bytes are a record
 
--- 2: a wrong length, a phase above 4, a yes/no byte other than 0 and 1, more held entries than entries, or more than 64 events
+-- 2 is its negation: a wrong length, a phase above 4, a yes/no byte other than 0 and 1, more held entries than entries, or more than 64 events
 unfoldable pub acceptedOf : List ℕ → Bool
 acceptedOf b =
     eqb (length b) Record.LENGTH

@@ -1,4 +1,4 @@
--- The numbers of a session fit their types, and its arrays have their lengths: so it is of every session that code holds, and `put_session` says
+-- The numbers of a session fit their types, and its arrays have their lengths: this holds of every session in code, and `put_session` says
 -- so of the session that it stores. Assumes nothing.
 use mathlib.Core.Path.{_≡_}
 use lib.ListN.{length}

@@ -177,7 +177,8 @@ pub fn queue_at(b: &[u8]) -> Queue
     }
 }
 
-fn pair_at(b: &[u8], at: usize) -> Pair
+// The pair that stands at an offset, and below the fixed bits: proofs/Capabilities.antt says which are the session's.
+pub fn pair_at(b: &[u8], at: usize) -> Pair
     requires { ⌜ at + 8 ≤ length (now b) ⌝ }
     ensures { λ r. ⌜ r ≡ pairOf (drop at (now (b .entry))) ⌝ }
 {
@@ -205,7 +206,7 @@ fn pairs_at(b: &[u8]) -> [Pair; 5]
     out
 }
 
-fn fixed_at(b: &[u8], at: usize) -> Fixed
+pub fn fixed_at(b: &[u8], at: usize) -> Fixed
     requires { ⌜ at + 16 ≤ length (now b) ⌝ }
     ensures { λ r. ⌜ r ≡ fixedOf (drop at (now (b .entry))) ⌝ }
 {
@@ -240,7 +241,7 @@ pub fn session_at(b: &[u8]) -> Session
     }
 }
 
-// The session of a record, or refusal 2. A call that only needs to refuse uses `accepts`, which builds nothing.
+// The session of a record, or refusal 2. The exported calls use `accepts` and read what they need, so that a refused call builds no session.
 pub fn decode(b: &[u8]) -> Decoded
     ensures { λ r. ⌜ r ≡ decodeOf (now (b .entry)) ⌝ }
 {

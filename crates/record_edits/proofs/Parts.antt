@@ -1,5 +1,5 @@
 -- Stores in the bytes of a session, part by part. Assumes nothing.
-use mathlib.Core.Path.{_≡_, refl, sym, ap, _∙_, subst}
+use mathlib.Core.Path.{_≡_, refl, sym, ap, _∙_}
 use mathlib.Core.List.{List, [], _∷_, _++_, map, flatMap, flatten, append-nil, append-assoc}
 use Prim.Native.Nat.{ℕ, zero, suc, _+_, _*_, _≤_, _<_}
 use native.Mathlib.Nat.{zero-add, add-zero, suc-add, zero-mul, suc-mul, add-assoc, mul-le-mul-right, not-suc-le-zero}
@@ -12,7 +12,7 @@ use Rattle.record.specs.Codec.{partsOf, encodeOf}
 use Rattle.record.specs.Fitting.{Fitting}
 use Rattle.record.proofs.Stores.{sets-append, sets-whole}
 use Rattle.record.proofs.Loops.{length-flatMap, flatMap-append, all-of}
-use Rattle.record.proofs.Parts.{total, length-flatten, from-part}
+use Rattle.record.proofs.Parts.{total, from-part}
 use Rattle.record.proofs.RoundTrip.{sizes, lengths}
 
 module _ {A : Type 0} where
@@ -38,89 +38,102 @@ module _ {A : Type 0} where
   sets-part zero (p ∷ ls) m us l h = rw zero-add (sets-left p (flatten ls) us m h)
   sets-part (suc k) (p ∷ ls) m us l h = rw (add-assoc, sets-right, sets-part k ls m us (omega arith) h)
 
--- ---- a run of values of one size
+-- ---- values of one size
 
-module _ {A : Type 0} (size : ℕ) (write : A → List ℕ) (each : (v : A) → length (write v) ≡ size) where
-  pub length-run : (vs : List A) → length (flatMap write vs) ≡ length vs * size
-  length-run vs = length-flatMap size write vs (all-of each vs)
+-- how a value is written, and in how many bytes
+pub record Form (A : Type 0) : Type 0 where
+  pub size : ℕ
+  pub write : A → List ℕ
+  pub each : (v : A) → length (write v) ≡ size
 
-  -- value i
-  sets-value : (vs : List A) (i : ℕ) (x : A) → i < length vs → sets (flatMap write vs) (i * size) (write x) ≡ flatMap write (set vs i x)
+module _ {A : Type 0} (form : Form A) where
+  pub length-run : (vs : List A) → length (flatMap (form .write) vs) ≡ length vs * form .size
+  length-run vs = length-flatMap (form .size) (form .write) vs (all-of (form .each) vs)
+
+  -- value i of a run
+  sets-value : (vs : List A) (i : ℕ) (x : A) → i < length vs → sets (flatMap (form .write) vs) (i * form .size) (form .write x) ≡ flatMap (form .write) (set vs i x)
   unfolding flatMap
   sets-value [] i x h = absurd (not-suc-le-zero h)
   sets-value (v ∷ vs) zero x h =
-      let same : length (write x) ≡ length (write v) = each x ∙ sym (each v) in
-      rw (zero-mul, sets-left (write v) (flatMap write vs) (write x) 0 (omega arith), sets-whole (write v) (write x) same)
+      let same : length (form .write x) ≡ length (form .write v) = form .each x ∙ sym (form .each v) in
+      rw (zero-mul, sets-left (form .write v) (flatMap (form .write) vs) (form .write x) 0 (omega arith), sets-whole (form .write v) (form .write x) same)
   sets-value (v ∷ vs) (suc i) x h =
-      let place : suc i * size ≡ length (write v) + i * size = omega (arith, suc-mul i size, each v) in
+      let place : suc i * form .size ≡ length (form .write v) + i * form .size = omega (arith, suc-mul i (form .size), form .each v) in
       rw (place, sets-right, sets-value vs i x (omega arith))
 
 -- ---- part k of a session's bytes
 
-module _ (s : Session) (f : Fitting s) (k : ℕ) (known : k < 16) where
+-- the bytes of a session whose numbers fit
+pub record Spells (b : List ℕ) (s : Session) : Type 0 where
+  pub fits : Fitting s
+  pub bytes : b ≡ encodeOf s
+
+module _ {b : List ℕ} {s : Session} (h : Spells b s) (k : ℕ) (known : k < 16) where
   abbrev at : ℕ
   at = total (take k sizes)
 
   abbrev part : List ℕ
   part = getD (partsOf s) k []
 
-  in-part : (m : ℕ) (us : List ℕ) → m + length us ≤ length part → sets (encodeOf s) (at + m) us ≡ flatten (set (partsOf s) k (sets part m us))
+  in-part : (m : ℕ) (us : List ℕ) → m + length us ≤ length part → sets b (at + m) us ≡ flatten (set (partsOf s) k (sets part m us))
   unfolding encodeOf
-  in-part m us room =
-      subst (λ (ns : List ℕ). sets (flatten (partsOf s)) (total (take k ns) + m) us ≡ flatten (set (partsOf s) k (sets part m us))) (lengths s f)
-      (sets-part k (partsOf s) m us known room)
+  in-part m us room = rw (h .bytes, ← lengths s (h .fits)) (sets-part k (partsOf s) m us known room)
 
-  -- the whole of it
-  pub part-stored : (us : List ℕ) → length us ≡ length part → sets (encodeOf s) at us ≡ flatten (set (partsOf s) k us)
-  part-stored us same =
-      ap (λ (n : ℕ). sets (encodeOf s) n us) (sym (add-zero at)) ∙ in-part 0 us (omega arith)
-      ∙ ap (λ (p : List ℕ). flatten (set (partsOf s) k p)) (sets-whole part us same)
+  whole-part : (us : List ℕ) → length us ≡ length part → sets b at us ≡ flatten (set (partsOf s) k us)
+  whole-part us same =
+      ap (λ (n : ℕ). sets b n us) (sym (add-zero at)) ∙ in-part 0 us (omega arith) ∙ ap (λ (p : List ℕ). flatten (set (partsOf s) k p)) (sets-whole part us same)
 
-  -- it is a run of values
-  module _ {A : Type 0} (size : ℕ) (write : A → List ℕ) (each : (v : A) → length (write v) ≡ size) (vs : List A) (run : part ≡ flatMap write vs) where
-    -- value i
-    pub value-stored : (i : ℕ) (x : A) → i < length vs → sets (encodeOf s) (at + i * size) (write x) ≡ flatten (set (partsOf s) k (flatMap write (set vs i x)))
-    value-stored i x within =
-        let next : suc i * size ≤ length vs * size = mul-le-mul-right size within in
-        let room : i * size + length (write x) ≤ length part = rw (run, length-run size write each vs, each x) (omega (arith, suc-mul i size)) in
-        in-part (i * size) (write x) room
-        ∙ ap (λ (p : List ℕ). flatten (set (partsOf s) k p)) (ap (λ (p : List ℕ). sets p (i * size) (write x)) run ∙ sets-value size write each vs i x within)
+  module _ {A : Type 0} (form : Form A) where
+    -- the part is one value
+    pub value-put : {after : List ℕ} (v x : A) → part ≡ form .write v → after ≡ sets b at (form .write x) → after ≡ flatten (set (partsOf s) k (form .write x))
+    value-put v x is e = e ∙ whole-part (form .write x) (form .each x ∙ sym (form .each v) ∙ ap length (sym is))
 
-    -- what stands from its start on
-    from : drop at (encodeOf s) ≡ flatMap write vs ++ flatten (drop (suc k) (partsOf s))
-    unfolding encodeOf flatten
-    from =
-        let there : k < length (partsOf s) = known in
-        subst (λ (ns : List ℕ). drop (total (take k ns)) (flatten (partsOf s)) ≡ flatten (drop k (partsOf s))) (lengths s f) (from-part k (partsOf s))
-        ∙ ap flatten (drop-cons (partsOf s) k [] there)
-        ∙ ap (λ (p : List ℕ). p ++ flatten (drop (suc k) (partsOf s))) run
+    -- it is a run of values
+    module _ (vs : List A) (run : part ≡ flatMap (form .write) vs) where
+      -- value i
+      pub element-put : {after : List ℕ} (i : ℕ) (x : A) → i < length vs → after ≡ sets b (at + i * form .size) (form .write x)
+          → after ≡ flatten (set (partsOf s) k (flatMap (form .write) (set vs i x)))
+      element-put i x within e =
+          let next : suc i * form .size ≤ length vs * form .size = mul-le-mul-right (form .size) within in
+          let room : i * form .size + length (form .write x) ≤ length part = rw (run, length-run form vs, form .each x) (omega (arith, suc-mul i (form .size))) in
+          e ∙ in-part (i * form .size) (form .write x) room
+          ∙ ap (λ (p : List ℕ). flatten (set (partsOf s) k p)) (ap (λ (p : List ℕ). sets p (i * form .size) (form .write x)) run ∙ sets-value form vs i x within)
 
-    -- the n bytes after its first value, where n is the size of the others
-    moved : (n : ℕ) → length vs ≡ suc n → take (n * size) (drop (at + size) (encodeOf s)) ≡ flatMap write (drop 1 vs)
-    unfolding flatMap
-    moved n whole = rw (← drop-drop size at (encodeOf s), from) (rest vs whole)
-      where
-        rest : (us : List A) → length us ≡ suc n → take (n * size) (drop size (flatMap write us ++ flatten (drop (suc k) (partsOf s)))) ≡ flatMap write (drop 1 us)
-        rest [] e = absurd (omega arith)
-        rest (u ∷ us) e =
-            let count : length us ≡ n = omega arith in
-            rw (append-assoc, drop-at (write u) _ size (each u), take-at (flatMap write us) _ (n * size) (rw (length-run size write each us, count)))
+      -- what stands from its start on
+      from : drop at b ≡ flatMap (form .write) vs ++ flatten (drop (suc k) (partsOf s))
+      unfolding encodeOf flatten
+      from =
+          let there : k < length (partsOf s) = known in
+          rw (h .bytes, ← lengths s (h .fits)) (from-part k (partsOf s) ∙ ap flatten (drop-cons (partsOf s) k [] there))
+          ∙ ap (λ (p : List ℕ). p ++ flatten (drop (suc k) (partsOf s))) run
 
-    -- the values moved down by one, and x last
-    pub run-shifted : (n : ℕ) (x : A) → length vs ≡ suc n
-        → sets (sets (encodeOf s) at (take (n * size) (drop (at + size) (encodeOf s)))) (at + n * size) (write x) ≡ flatten (set (partsOf s) k (flatMap write (shifted x vs)))
-    unfolding shifted flatMap
-    run-shifted n x whole =
-        let others : length (drop 1 vs) ≡ n = less vs whole in
-        let all : flatMap write (drop 1 vs ++ (x ∷ [])) ≡ flatMap write (drop 1 vs) ++ write x = last (drop 1 vs) in
-        let size-of : n * size ≡ length (flatMap write (drop 1 vs)) = sym (rw (length-run size write each (drop 1 vs), others)) in
-        let same : length (flatMap write (drop 1 vs) ++ write x) ≡ length part =
-        rw (run, length-run size write each vs, whole) (omega (arith, length-append (flatMap write (drop 1 vs)) (write x), each x, size-of, suc-mul n size)) in
-        rw (moved n whole, size-of, sets-append, all) (part-stored (flatMap write (drop 1 vs) ++ write x) same)
-      where
-        less : (us : List A) → length us ≡ suc n → length (drop 1 us) ≡ n
-        less [] e = absurd (omega arith)
-        less (u ∷ us) e = omega arith
+      -- the bytes of the n values after its first
+      moved : (n : ℕ) → length vs ≡ suc n → take (n * form .size) (drop (at + form .size) b) ≡ flatMap (form .write) (drop 1 vs)
+      unfolding flatMap
+      moved n all = rw (← drop-drop (form .size) at b, from) (rest vs all)
+        where
+          rest : (us : List A) → length us ≡ suc n → take (n * form .size) (drop (form .size) (flatMap (form .write) us ++ flatten (drop (suc k) (partsOf s)))) ≡ flatMap (form .write) (drop 1 us)
+          rest [] e = absurd (omega arith)
+          rest (u ∷ us) e =
+              let count : length us ≡ n = omega arith in
+              rw (append-assoc, drop-at (form .write u) _ (form .size) (form .each u), take-at (flatMap (form .write) us) _ (n * form .size) (rw (length-run form us, count)))
 
-        last : (us : List A) → flatMap write (us ++ (x ∷ [])) ≡ flatMap write us ++ write x
-        last us = flatMap-append write us (x ∷ []) ∙ ap (λ (l : List ℕ). flatMap write us ++ l) (append-nil (write x))
+      -- the values moved down by one, and x last
+      pub run-shifted : {after : List ℕ} (n : ℕ) (x : A) → length vs ≡ suc n
+          → after ≡ sets (sets b at (take (n * form .size) (drop (at + form .size) b))) (at + n * form .size) (form .write x)
+          → after ≡ flatten (set (partsOf s) k (flatMap (form .write) (shifted x vs)))
+      unfolding shifted flatMap
+      run-shifted n x all e =
+          let others : length (drop 1 vs) ≡ n = less vs all in
+          let joined : flatMap (form .write) (drop 1 vs ++ (x ∷ [])) ≡ flatMap (form .write) (drop 1 vs) ++ form .write x = last (drop 1 vs) in
+          let size-of : n * form .size ≡ length (flatMap (form .write) (drop 1 vs)) = sym (rw (length-run form (drop 1 vs), others)) in
+          let same : length (flatMap (form .write) (drop 1 vs) ++ form .write x) ≡ length part =
+          rw (run, length-run form vs, all) (omega (arith, length-append (flatMap (form .write) (drop 1 vs)) (form .write x), form .each x, size-of, suc-mul n (form .size))) in
+          rw (e, moved n all, size-of, sets-append, joined) (whole-part (flatMap (form .write) (drop 1 vs) ++ form .write x) same)
+        where
+          less : (us : List A) → length us ≡ suc n → length (drop 1 us) ≡ n
+          less [] p = absurd (omega arith)
+          less (u ∷ us) p = omega arith
+
+          last : (us : List A) → flatMap (form .write) (us ++ (x ∷ [])) ≡ flatMap (form .write) us ++ form .write x
+          last us = flatMap-append (form .write) us (x ∷ []) ∙ ap (λ (l : List ℕ). flatMap (form .write) us ++ l) (append-nil (form .write x))

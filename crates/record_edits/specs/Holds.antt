@@ -6,7 +6,7 @@ use Prim.Native.Nat.{ℕ}
 use Rattle.vcpu_session.specs.declared.Session.{Session}
 use Rattle.record.specs.Codec.{sessionOf, acceptedOf}
 
--- they are accepted, and spell that session
+-- they are accepted, and spell that session. Of two edits, the first's `session` rewrites the second's: `rw (first .session) at second`
 pub record Holds (b : List ℕ) (s : Session) : Type 0 where
   pub accepted : acceptedOf b ≡ true
   pub session : sessionOf b ≡ s

@@ -5,7 +5,7 @@ ghost use Prim.Native.Nat.{_+_, _^_, _<_, _≤_};
 ghost use lib.ListN.{length, take, drop};
 ghost use lib.Seq.{sets};
 ghost use Rattle.regs.specs.Registers.{withReg};
-ghost use Rattle.vmcs.specs.Field.{Word32, Word64, Natural, widthBits};
+ghost use Rattle.vmcs.specs.Field.{Word16, Word32, Word64, Natural, widthBits};
 ghost use Rattle.vmcs.specs.Fields.{fieldAt};
 ghost use Rattle.vcpu_session.specs.Session.{withProgress, withRegs, withQueue, inPhase};
 ghost use Rattle.vcpu_events.specs.Queue.{pushed, popped};
@@ -55,6 +55,13 @@ pub fn put_regs(b: &mut [u8], g: GeneralRegisters)
 
 // ---- Fields, at a place of the array of their width.
 
+fn put_w16(b: &mut [u8], place: usize, value: u16)
+    requires { ⌜ (acceptedOf (now b) ≡ true) × (place < 17) ⌝ }
+    ensures { λ _. ⌜ Holds (now (b .exit)) (withField (sessionOf (now (b .entry))) (Word16 place) value) ⌝ }
+{
+    words::put2(b, Record::W16 + place * 2, value);
+}
+
 pub fn put_w32(b: &mut [u8], place: usize, value: u32)
     requires { ⌜ (acceptedOf (now b) ≡ true) × (place < 50) ⌝ }
     ensures { λ _. ⌜ Holds (now (b .exit)) (withField (sessionOf (now (b .entry))) (Word32 place) value) ⌝ }
@@ -82,18 +89,18 @@ pub fn put_field(b: &mut [u8], place: usize, value: u64)
     ensures { λ _. ⌜ Holds (now (b .exit)) (withField (sessionOf (now (b .entry))) (fieldAt place) value) ⌝ }
 {
     if place < 17 {
-        words::put2(b, Record::W16 + place * 2, value as u16);
+        put_w16(b, place, value as u16);
         return;
     }
     if place < 58 {
-        words::put8(b, Record::W64 + (place - 17) * 8, value);
+        put_w64(b, place - 17, value);
         return;
     }
     if place < 108 {
-        words::put4(b, Record::W32 + (place - 58) * 4, value as u32);
+        put_w32(b, place - 58, value as u32);
         return;
     }
-    words::put8(b, Record::NATURAL + (place - 108) * 8, value);
+    put_natural(b, place - 108, value);
 }
 
 // ---- The queue of events.

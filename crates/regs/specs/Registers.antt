@@ -50,8 +50,3 @@ regWritten n g = record { refusal = n; regs = g }
 -- 23: index 4, the place of RSP, or above 15
 unfoldable pub withRegOfIndex : GeneralRegisters → ℕ → ℕ → RegWritten
 withRegOfIndex g i x = cond (ltb 15 i) (regWritten 23 g) (cond (eqb i 4) (regWritten 23 g) (regWritten 0 (withReg g i x)))
-
--- the answer in document 01's numbers: 0 and the value, or the number of the refusal
-abbrev pub regNumbers : RegAnswer → List ℕ
-regNumbers (Value x) = 0 ∷ x ∷ []
-regNumbers (Refused n) = n ∷ []

@@ -38,7 +38,7 @@ pub fn interrupt_exit_info(n: [u64; 8]) {
     );
 }
 
-// Whether a basic exit reason has a name. The list has none of 65 to 69.
+// Whether a basic exit reason has a name. Reasons 65 to 69 have one and are refused by 14 in a report; the oracle's list has no case of them.
 fn is_named(reason: u32) -> bool {
     let reasons = definitions::exit_reason::exit_reasons();
     let mut i: usize = 0;

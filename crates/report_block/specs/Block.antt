@@ -43,6 +43,6 @@ reportOf b =
       cpuid = cpuidOf b;
     }
 
--- 2: a wrong length
+-- 2 is its negation: a wrong length
 abbrev pub blockAccepted : List ℕ → Bool
 blockAccepted b = eqb (length b) Layout.LENGTH

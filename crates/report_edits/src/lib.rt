@@ -1,11 +1,11 @@
 // The exit report done in place on a session's record: it reads and writes the bytes that the report needs, and no others.
-// Ported as vcpu_exit, vcpu_handlers and vcpu_report are, from x86_vcpu src/vmx/vcpu.rs (Copyright 2025 The Axvisor Team, Apache-2.0).
+// Ported as vcpu_exit, vcpu_handlers and vcpu_report are, from x86_vcpu src/vmx/vcpu.rs (Copyright 2025 The Axvisor Team, Apache-2.0). Changed as there; and
+// the session is the bytes of a record.
 ghost use mathlib.Core.Path.{_≡_};
 ghost use mathlib.Core.Bool.{true, false};
 ghost use lib.ListN.{length};
 ghost use Rattle.vmcs.specs.Writes.{applied};
 ghost use Rattle.vcpu_session.specs.Session.{withVmcs};
-ghost use Rattle.vcpu_events.specs.Entry.{windowSet};
 ghost use Rattle.vcpu_exit.specs.Reading.{pastEnd};
 ghost use Rattle.vcpu_exit.specs.Refusal.{entryPair, ownedBitsDiffer, reportRefusal};
 ghost use Rattle.vcpu_handlers.specs.Handlers.{stored, failureStored, timerSet, cr0Set, cr4Set, eferUpdated, crHandled, handledAs, ripAdvanced, vmcsAfter};
@@ -16,13 +16,11 @@ ghost use Rattle.record_edits.specs.Holds.{Holds};
 ghost use Rattle.report_edits.specs.Stored.{guestWrites, exitWrites};
 use definitions::exit_reason::VmxExitReason;
 use record::Record;
-use record::words;
 use vcpu_answers::AxVCpuExitReason;
 use vcpu_exit::Report;
 use vcpu_session::Fixed;
 use vcpu_session::Phase;
 use vmcs::controls::Pair;
-use vmcs::flags::PrimaryControls;
 use vmcs::names::VmcsControl32;
 use vmcs::names::VmcsControlNW;
 use vmcs::names::VmcsGuest32;
@@ -31,37 +29,14 @@ use vmcs::names::VmcsGuestNW;
 use vmcs::names::VmcsReadOnly32;
 use vmcs::names::VmcsReadOnlyNW;
 
-// ---- capabilities that a report reads
+// ---- a capability that a report reads
 
-// The pair of the entry controls, the last of the five.
-pub fn entry_pair_at(b: &[u8]) -> Pair
+// The pair of the entry controls, the last of the five, of 8 bytes each.
+fn entry_pair_at(b: &[u8]) -> Pair
     requires { ⌜ length (now b) ≡ LENGTH ⌝ }
     ensures { λ p. ⌜ p ≡ entryPair (sessionOf (now (b .entry)) .capabilities) ⌝ }
 {
-    Pair {
-        allowed0: words::get4(b, Record::PAIRS + 32),
-        allowed1: words::get4(b, Record::PAIRS + 36),
-    }
-}
-
-pub fn cr0_fixed_at(b: &[u8]) -> Fixed
-    requires { ⌜ length (now b) ≡ LENGTH ⌝ }
-    ensures { λ f. ⌜ f ≡ sessionOf (now (b .entry)) .capabilities .cr0 ⌝ }
-{
-    Fixed {
-        fixed0: words::get8(b, Record::CR0),
-        fixed1: words::get8(b, Record::CR0 + 8),
-    }
-}
-
-pub fn cr4_fixed_at(b: &[u8]) -> Fixed
-    requires { ⌜ length (now b) ≡ LENGTH ⌝ }
-    ensures { λ f. ⌜ f ≡ sessionOf (now (b .entry)) .capabilities .cr4 ⌝ }
-{
-    Fixed {
-        fixed0: words::get8(b, Record::CR4),
-        fixed1: words::get8(b, Record::CR4 + 8),
-    }
+    record::pair_at(b, Record::PAIRS + 32)
 }
 
 // ---- refusals
@@ -157,19 +132,6 @@ fn store_report(b: &mut [u8], r: Report)
 
 // ---- by reason
 
-// Interrupt-window exiting off.
-fn clear_interrupt_window(b: &mut [u8])
-    requires { ⌜ acceptedOf (now b) ≡ true ⌝ }
-    ensures { λ _. ⌜ Holds (now (b .exit)) (withVmcs (sessionOf (now (b .entry))) (windowSet (sessionOf (now (b .entry)) .vmcs) false)) ⌝ }
-{
-    let word = record::w32_at(b, VmcsControl32::PRIMARY_PROCBASED_EXEC_CONTROLS);
-    record_edits::put_w32(
-        b,
-        VmcsControl32::PRIMARY_PROCBASED_EXEC_CONTROLS,
-        word & !PrimaryControls::INTERRUPT_WINDOW_EXITING,
-    );
-}
-
 // The timer starts anew.
 fn handle_vmx_preemption_timer(b: &mut [u8])
     requires { ⌜ acceptedOf (now b) ≡ true ⌝ }
@@ -218,11 +180,11 @@ fn handle_cr(b: &mut [u8], r: Report)
 {
     let value = vcpu_exit::moved_value(r);
     if vcpu_exit::is_move_to(r, 4) {
-        let cr4 = cr4_fixed_at(b);
+        let cr4 = record::fixed_at(b, Record::CR4);
         set_cr4(b, cr4, value);
         return;
     }
-    let cr0 = cr0_fixed_at(b);
+    let cr0 = record::fixed_at(b, Record::CR0);
     set_cr0(b, cr0, value);
     if (value >> 31) % 2 == 1 {
         let pair = entry_pair_at(b);
@@ -236,7 +198,7 @@ fn handle_as(b: &mut [u8], reason: u32, r: Report)
     ensures { λ _. ⌜ Holds (now (b .exit)) (withVmcs (sessionOf (now (b .entry))) (handledAs reason (sessionOf (now (b .entry)) .vmcs) (sessionOf (now (b .entry)) .capabilities) r)) ⌝ }
 {
     if reason == VmxExitReason::INTERRUPT_WINDOW {
-        clear_interrupt_window(b);
+        entry_edits::set_interrupt_window(b, false);
         return;
     }
     if reason == VmxExitReason::PREEMPTION_TIMER {

@@ -82,7 +82,7 @@ argumentsOf b =
       features = featuresOf b;
     }
 
--- 2: a wrong length, or a yes/no byte other than 0 and 1
+-- 2 is its negation: a wrong length, or a yes/no byte other than 0 and 1
 unfoldable pub blockAccepted : List ℕ → Bool
 blockAccepted b =
     eqb (length b) Layout.LENGTH

@@ -1,4 +1,4 @@
--- The lines that document 01 describes, and what it prints for a line ("casesheet"). The definitions read a line by position:
+-- The lines that document 01 describes, and what it prints for a line ("Worked by hand"). The definitions read a line by position:
 -- `prints` of proofs/FormLaws.antt shows that this is the same. Assumes nothing.
 use Prim.Native.Nat.{ℕ, _^_, _≤_, _<_}
 use mathlib.Core.Path.{_≡_}

@@ -1,4 +1,4 @@
--- Numbers as small hexadecimal digits, and back (document 01, "casesheet"). Assumes nothing.
+-- Numbers as small hexadecimal digits, and back (document 01, "Worked by hand"). Assumes nothing.
 use Prim.Native.Nat.{ℕ, zero, suc, _+_, _-_, _*_, _/_, _%_, _^_}
 use Prim.Native.Char.{code}
 use mathlib.Core.Bool.{cond}

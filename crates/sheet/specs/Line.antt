@@ -1,4 +1,4 @@
--- One line: what it says, read by position, and the line that is printed for it (document 01, "casesheet"). Assumes nothing.
+-- One line: what it says, read by position, and the line that is printed for it (document 01, "Worked by hand"). Assumes nothing.
 use Prim.Native.Nat.{ℕ, _+_, _-_, _%_}
 use Prim.Native.Char.{code}
 use mathlib.Core.Bool.{Bool, true, false, cond}

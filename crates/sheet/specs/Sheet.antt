@@ -1,4 +1,4 @@
--- The whole text: its lines, and what is printed for them (document 01, "casesheet"). Assumes nothing.
+-- The whole text: its lines, and what is printed for them (document 01, "Worked by hand"). Assumes nothing.
 use Prim.Native.Nat.{ℕ, suc, _+_}
 use Prim.Native.Char.{code}
 use mathlib.Core.Bool.{cond}

@@ -1,4 +1,4 @@
--- The extended-page-table pointer (SDM 3C, 24.6.11), its parts named as in the Rust. Assumes nothing.
+-- The extended-page-table pointer (SDM 3C, 25.6.11), its parts named as in the Rust. Assumes nothing.
 use Prim.Native.Nat.{ℕ, _-_}
 use lib.Bits.{bitAnd, bitOr}
 use Rattle.bits.specs.Words.{bitNot, shl}

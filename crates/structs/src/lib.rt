@@ -13,9 +13,10 @@ ghost use Rattle.structs.specs.EPTPointer.{eptPointer};
 
 // The bytes of a frame.
 const FRAME_SIZE: usize = 4096;
-// One past the last port, and the first port of I/O bitmap B. The ports below that are in A.
+// One past the last port.
 const PORTS: usize = 0x1_0000;
 
+// The first port of I/O bitmap B. The ports below it are in A.
 const FIRST_PORT_OF_B: usize = 0x8000;
 // The low MSRs are those below LOW_MSRS, and there are as many high ones, from HIGH_MSRS on. A quarter of the MSR bitmap has a bit for each.
 const LOW_MSRS: usize = 0x2000;
@@ -248,7 +249,7 @@ pub fn set_write_intercept(frame: &mut [u8], msr: u32, intercept: bool) -> u32
     set_access(frame, Access::Write, msr, 1, intercept)
 }
 
-// Sets the intercepts of reads and writes of count MSRs from msr_base on.
+// Sets the intercepts of reads and writes of count MSRs from msr_base on. Both edits are refused alike, so the number of the first is not looked at.
 pub fn set_msr_intercepts(frame: &mut [u8], msr_base: u32, count: u32, intercept: bool) -> u32
     ensures { λ r. ⌜ record { refusal = r; frame = now (frame .exit) } ≡ editMsrs (now (frame .entry)) «msr_base» count (Access.Read ∷ Access.Write ∷ []) intercept ⌝ }
 {

@@ -20,7 +20,7 @@ cpuidWords a b c d = record { eax = a; ebx = b; ecx = c; edx = d }
 abbrev pub vendorText : List ℕ
 vendorText = 0x52 ∷ 0x56 ∷ 0x4D ∷ 0x52 ∷ 0x56 ∷ 0x4D ∷ 0x52 ∷ 0x56 ∷ 0x4D ∷ 0x52 ∷ 0x56 ∷ 0x4D ∷ []
 
--- the next leaf, and the text as three little-endian words
+-- the highest hypervisor leaf, and the text as three little-endian words
 unfoldable pub vendorInfo : CpuidWords
 vendorInfo = cpuidWords 0x40000001 (littleEndian 4 vendorText) (littleEndian 4 (drop 4 vendorText)) (littleEndian 4 (drop 8 vendorText))
 

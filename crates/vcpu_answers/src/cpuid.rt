@@ -25,7 +25,7 @@ fn little_endian(b0: u8, b1: u8, b2: u8, b3: u8) -> u32
     b0 as u32 + b1 as u32 * 0x100 + b2 as u32 * 0x1_0000 + b3 as u32 * 0x100_0000
 }
 
-// The next leaf, and the vendor text as three words.
+// The highest hypervisor leaf, and the vendor text as three words.
 fn vendor_info() -> CpuidWords
     ensures { λ w. ⌜ w ≡ vendorInfo ⌝ }
 {

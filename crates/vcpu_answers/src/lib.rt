@@ -16,7 +16,7 @@ const QEMU_EXIT_PORT: u16 = 0x604;
 
 const QEMU_EXIT_MAGIC: u64 = 0x2000;
 
-// What the host is to do. The names are those of the crate axvcpu. Widths are in bytes.
+// What the host is to do. The names are those of the crate axvcpu, but ApicRead and ApicWrite, which are document 01's. Widths are in bytes.
 pub enum AxVCpuExitReason {
     // The exit is dealt with: the next entry may follow.
     Nothing,
@@ -59,7 +59,7 @@ pub enum AxVCpuExitReason {
         value: u64,
     },
     Halt,
-    // The session is ended.
+    // The session is ended. The reason is 0, as in the Rust, which has none to give.
     FailEntry {
         reason: u64,
     },
@@ -152,7 +152,7 @@ fn is_width(size: u8) -> bool
     (size == 1) | (size == 2) | (size == 4)
 }
 
-// An access of a width.
+// An access of 1, 2 or 4 bytes that is neither a string access nor repeated.
 fn io_access(info: VmxIoExitInfo, rax: u64) -> AxVCpuExitReason
     ensures { λ a. ⌜ a ≡ ioAccess info rax ⌝ }
 {

@@ -13,7 +13,7 @@ QEMU_EXIT_PORT = 0x604
 abbrev pub IA32_UMWAIT_CONTROL : ℕ
 IA32_UMWAIT_CONTROL = 0xE1
 
--- the x2APIC registers (SDM 3A, 11.12.1.2) are 64 MSRs from here on
+-- the x2APIC registers that setup intercepts are 64 MSRs from here on; the manual keeps 0x800 to 0x8FF for them (SDM 3A, 11.12.1.2)
 abbrev pub X2APIC_MSRS : ℕ
 X2APIC_MSRS = 0x800
 

@@ -7,7 +7,7 @@ ghost use Rattle.vcpu_bitmaps.specs.Bitmaps.{ioBitmapSet, msrBitmapSet};
 const QEMU_EXIT_PORT: u32 = 0x604;
 
 const IA32_UMWAIT_CONTROL: u32 = 0xE1;
-// The x2APIC registers (SDM 3A, 11.12.1.2): 64 MSRs from 0x800 on.
+// The x2APIC registers that setup intercepts: 64 MSRs from 0x800 on (document 01, "Setup"). The manual keeps 0x800 to 0x8FF for them (SDM 3A, 11.12.1.2).
 const X2APIC_MSRS: u32 = 0x800;
 
 const X2APIC_COUNT: u32 = 64;
@@ -19,7 +19,7 @@ pub fn setup_io_bitmap(a: &mut [u8], b: &mut [u8]) -> u32
     structs::set_intercept(a, b, QEMU_EXIT_PORT, true)
 }
 
-// Adds reads and writes of IA32_UMWAIT_CONTROL and of the x2APIC registers: refusal 2.
+// Adds reads and writes of IA32_UMWAIT_CONTROL, since a Linux guest takes an exception from it otherwise (the Rust), and of the x2APIC registers: refusal 2. Both edits are refused alike.
 pub fn setup_msr_bitmap(frame: &mut [u8]) -> u32
     ensures { λ r. ⌜ record { refusal = r; frame = now (frame .exit) } ≡ msrBitmapSet (now (frame .entry)) ⌝ }
 {

@@ -121,7 +121,7 @@ entry s stack =
       session = afterEntry s stack (injectionOf (s .queue) (s .vmcs));
     })))
 
--- the numbers of an entry's answer: 0 launch, 1 resume; 0 the queue is empty, 1 held, 2 written
+-- the number of what an entry did with the front of the queue: 0 the queue is empty, 1 held, 2 written
 abbrev pub injectionNumber : Injection → ℕ
 injectionNumber Empty = 0
 injectionNumber Held = 1

@@ -88,6 +88,7 @@ fn shift_codes(l: [u32; 64]) -> [u32; 64]
     m
 }
 
+// One less, and 0 for 0: the subtraction of the definition.
 pub fn less_one(n: u8) -> u8
     ensures { λ r. ⌜ r ≡ n - 1 ⌝ }
 {
@@ -109,6 +110,7 @@ fn pop_front(q: Queue) -> Queue
     }
 }
 
+// The code that waits with an event: 0 where none is given.
 pub fn stored_code(e: Event) -> u32
     ensures { λ r. ⌜ r ≡ cond (e .coded) (e .code) 0 ⌝ }
 {
@@ -209,7 +211,7 @@ fn front_of(q: Queue) -> Event
     }
 }
 
-// Interrupts are blocked, and the event is one (`allow_interrupt`).
+// The event is an interrupt (vector 32 or above), and interrupts are blocked (`allow_interrupt`).
 pub fn is_held(vector: u8, rflags: u64, interruptibility: u32) -> bool
     ensures { λ r. ⌜ r ≡ isHeld vector rflags interruptibility ⌝ }
 {
@@ -329,6 +331,7 @@ fn queue_after(q: Queue, injection: Injection) -> Queue
     }
 }
 
+// Running, launched, one entry more, and one held entry more where the event is held. The caller has tested 22.
 pub fn progress_after(p: Progress, injection: Injection) -> Progress
     requires { ⌜ (p .entries < 2 ^ 32 - 1) × (p .held ≤ p .entries) ⌝ }
     ensures { λ r. ⌜ r ≡ progressAfter p injection ⌝ }

@@ -1,4 +1,4 @@
--- The refusal of a report (document 01, "Exit report"): its number, or 0. Assumes nothing.
+-- The refusal of a report (document 01, "The operations and their numbers"): its number, or 0. Assumes nothing.
 use Prim.Native.Nat.{ℕ}
 use mathlib.Core.Bool.{Bool, cond, not, _&&_, _||_}
 use lib.Bits.{bitAnd}
@@ -22,7 +22,7 @@ use Rattle.vcpu_session.specs.declared.Session.{Session}
 use Rattle.vcpu_exit.specs.Reading.{reasonOf, failed, isMoveTo, turnsPagingOn, pastEnd}
 use Rattle.vcpu_exit.specs.declared.Report.{Report}
 
--- 14: above 64, or 35, 38 or 42, or failed with a reason other than 33, 34 or 41 (SDM 3D, appendix C; 3C, 26.8)
+-- 14: above 64, or 35, 38 or 42, or failed with a reason other than 33, 34 or 41 (SDM 3D, appendix C; 3C, 27.8)
 unfoldable pub unknownReason : Report → Bool
 unknownReason r =
     not (leb (reasonOf r) 64 && not (eqb (reasonOf r) 35) && not (eqb (reasonOf r) 38) && not (eqb (reasonOf r) 42))
@@ -63,7 +63,7 @@ eferRefusal pair entry r = cond (turnsPagingOn r) (updateEfer pair (r .efer) ent
 abbrev pub entryPair : Capabilities → Pair
 entryPair c = pairAt (c .pairs) 4
 
--- the second half of the chain. 16, 18, 20: above. 19: XSETBV with ECX 0. 21: an APIC access. 17: RIP is to advance and the sum passes 2^64 - 1. 8: above
+-- the refusals after 15, which need no session but the entry pair and word. 16, 18, 20: above. 19: XSETBV with ECX 0. 21: an APIC access. 17: RIP is to advance and the sum passes 2^64 - 1. 8: above
 unfoldable pub exitRefusal : Pair → ℕ → Report → ℕ
 exitRefusal pair entry r =
     cond (noInterrupt r) 16

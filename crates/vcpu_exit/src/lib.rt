@@ -201,7 +201,7 @@ fn past_end(r: Report) -> bool
     0xFFFF_FFFF_FFFF_FFFF - advance_of(r) < r.rip
 }
 
-// 8: paging is turned on, and the entry controls cannot follow.
+// 8: paging is turned on, and entry bit 9 is to be set and is not in allowed-1.
 fn efer_refusal(pair: Pair, entry: u32, r: Report) -> u32
     ensures { λ n. ⌜ n ≡ eferRefusal pair entry r ⌝ }
 {

@@ -31,7 +31,7 @@ use Rattle.vcpu_exit.specs.declared.Report.{Report}
 
 -- ---- storing the report
 
--- all of it but registers and CPUID words; bit 31, valid, of the entry interruption field is cleared (SDM 3C, 27.1)
+-- all of it but registers and CPUID words; bit 31, valid, of the entry interruption field is cleared (SDM 3C, 25.8.3)
 abbrev pub reportWrites : Vmcs → Report → List Write
 reportWrites v r =
     VmcsGuestNW.RIP ≔ r .rip
@@ -56,14 +56,14 @@ reportWrites v r =
 unfoldable pub stored : Vmcs → Report → Vmcs
 stored v r = applied (reportWrites v r) v
 
--- a failed entry: reason and qualification only (SDM 3C, 26.8)
+-- a failed entry: reason and qualification only (SDM 3C, 27.8)
 abbrev pub failureWrites : Report → List Write
 failureWrites r = VmcsReadOnly32.EXIT_REASON ≔ r .reason ∷ VmcsReadOnlyNW.EXIT_QUALIFICATION ≔ r .qualification ∷ []
 
 unfoldable pub failureStored : Vmcs → Report → Vmcs
 failureStored v r = applied (failureWrites r) v
 
--- ---- reason 52: the preemption timer starts anew (SDM 3C, 25.5.1)
+-- ---- reason 52: the preemption timer starts anew (SDM 3C, 26.5.1)
 
 unfoldable pub timerSet : Vmcs → Vmcs
 timerSet v = applied (VmcsGuest32.VMX_PREEMPTION_TIMER_VALUE ≔ 1000000 ∷ []) v

@@ -143,7 +143,7 @@ fn advance_rip(v: Vmcs, r: Report) -> Vmcs
     next
 }
 
-// The fields after an accepted exit.
+// The fields after an accepted exit: 17 is tested, so RIP does not pass 2^64 - 1.
 pub fn vmcs_after(v: Vmcs, c: Capabilities, r: Report) -> Vmcs
     requires { ⌜ pastEnd r ≡ false ⌝ }
     ensures { λ t. ⌜ t ≡ vmcsAfter v c r ⌝ }

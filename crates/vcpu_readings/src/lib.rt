@@ -150,7 +150,7 @@ fn segment_base(mode: VmCpuMode, csbase: u64) -> u64
     }
 }
 
-// A guest address with its segment's base (`gla2gva`). Refusal 17: the sum passes 2^64 - 1.
+// A guest address with the base of CS added, but in 64-bit mode none (`gla2gva`). Refusal 17: the sum passes 2^64 - 1.
 pub fn linear_address(mode: VmCpuMode, csbase: u64, address: u64) -> AddressAnswer
     ensures { λ r. ⌜ r ≡ linearAddress mode csbase address ⌝ }
 {

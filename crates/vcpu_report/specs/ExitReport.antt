@@ -1,4 +1,4 @@
--- The exit report (document 01, "Session" and "Exit report"). Assumes nothing.
+-- The exit report (document 01, "Session" and "The operations and their numbers"). Assumes nothing.
 use Prim.Native.Nat.{ℕ}
 use mathlib.Core.Bool.{cond}
 use lib.Dec.{eqb}

@@ -86,7 +86,7 @@ pub record Owned (must0 must1 fixed1 value mask : ℕ) : Type 0 where
   pub within : Within value fixed1
   pub owns : mask ≡ bitOr must1 (bitNot 64 must0)
 
--- as `cr0Words` and `cr4Words` make them
+-- the five words are permitted, primary bit 2 aside, and CR0 and CR4 and their masks are as `cr0Words` and `cr4Words` make them
 pub record SoundWords (c : Capabilities) (j : Judged) : Type 0 where
   pub pin : PermittedBy (pairAt (c .pairs) 0) (j .pin)
   pub primary : PermittedAside PrimaryControls.INTERRUPT_WINDOW_EXITING (pairAt (c .pairs) 1 .allowed0) (pairAt (c .pairs) 1 .allowed1) (j .primary)

@@ -57,7 +57,7 @@ readied s a c =
       capabilities = c;
     }
 
--- refused by n unless that is 0
+-- refused by the number of `setupRefusal` unless that is 0
 unfoldable pub setupOf : Session → Arguments → Answered
 setupOf s a =
     cond (eqb (setupRefusal s (capabilitiesOf (a .msrs)) (a .features)) 0)

@@ -1,4 +1,4 @@
--- What setup writes, by the manual's names and in the order of setup_vmcs. Assumes nothing.
+-- What setup writes, by the Rust's names and in the order of setup_vmcs (document 01, "Setup": all other fields are as in the Rust). Assumes nothing.
 use Prim.Native.Nat.{ℕ}
 use mathlib.Core.List.{List, [], _∷_, _++_}
 use lib.ListN.{getD}
@@ -76,6 +76,7 @@ crSet v cr0 cr4 = applied (crWrites cr0 cr4) v
 abbrev pub segmentWrites : Field → Field → Field → Field → ℕ → List Write
 segmentWrites selector base limit rights access = selector ≔ 0 ∷ base ≔ 0 ∷ limit ≔ 0xFFFF ∷ rights ≔ access ∷ []
 
+-- the guest starts in real mode. Access rights (SDM 3C, table 25-2), all present: 0x93 data, read/write, accessed; 0x9B code, execute/read, accessed; 0x8B a busy TSS; 0x82 an LDT
 abbrev pub segmentsWrites : List Write
 segmentsWrites =
     segmentWrites VmcsGuest16.ES_SELECTOR VmcsGuestNW.ES_BASE VmcsGuest32.ES_LIMIT VmcsGuest32.ES_ACCESS_RIGHTS 0x93
@@ -90,6 +91,7 @@ segmentsWrites =
 abbrev pub segmentsSet : Vmcs → Vmcs
 segmentsSet v = applied segmentsWrites v
 
+-- bit 10 of DR7 and bit 1 of RFLAGS are always 1; a link pointer of all ones is none (SDM 3C, 25.4.2)
 abbrev pub guestWrites : ℕ → ℕ → List Write
 guestWrites entry pat =
     VmcsGuestNW.GDTR_BASE ≔ 0
@@ -119,6 +121,7 @@ guestSet v entry pat = applied (guestWrites entry pat) v
 
 -- ---- setup_vmcs_control
 
+-- of the exceptions only #UD, vector 6, exits: 0x40
 abbrev pub controlWrites : List ℕ → ℕ → Addresses → List Write
 controlWrites words eptp a =
     VmcsControl32.PINBASED_EXEC_CONTROLS ≔ getD words 0 0

@@ -1,5 +1,5 @@
 -- Control words, at any width: the result of `set_control`, its refusals, and which words a pair permits (document 01, "Control words";
--- SDM 3C, 31.5.1, algorithm 3). Assumes nothing.
+-- SDM 3D, A.2 to A.5; the Rust cites 31.5.1, algorithm 3, of an older edition). Assumes nothing.
 use Prim.Native.Nat.{ℕ, _<_}
 use mathlib.Core.Path.{_≡_}
 use mathlib.Core.Bool.{Bool, cond, not, _&&_}
@@ -31,8 +31,8 @@ abbrev pub controlNumbers : ControlAnswer → List ℕ
 controlNumbers (Word word) = 0 ∷ word ∷ []
 controlNumbers (Refused n) = n ∷ []
 
--- what the manual asks of an accepted word of w bits: all of allowed-0, nothing outside allowed-1, all of set, nothing of clear, and each
--- other bit as in old
+-- what the manual asks of an accepted word: all of allowed-0, nothing outside allowed-1, all of set, nothing of clear, and each other bit that
+-- may be 0 or 1 as in old
 pub record Accepted (allowed0 allowed1 old set clear word : ℕ) : Type 0 where
   pub permitted : Permitted allowed0 allowed1 word
   pub is-set : Within set word

@@ -23,7 +23,7 @@ cr0Off = maskOf (Cr0Flags.NOT_WRITE_THROUGH ∷ Cr0Flags.CACHE_DISABLE ∷ [])
 abbrev pub cr0Words : ℕ → ℕ → ℕ → CrWords
 cr0Words fixed0 fixed1 val = crWords (bitAnd fixed1 (bitNot 64 cr0Off)) (bitAnd fixed0 (bitNot 64 cr0Free)) val
 
--- VMXE is always set
+-- VMXE is added to what is asked for, so that the read shadow has it too
 abbrev pub cr4Words : ℕ → ℕ → ℕ → CrWords
 cr4Words fixed0 fixed1 val = crWords fixed1 fixed0 (bitOr val (2 ^ Cr4Flags.VIRTUAL_MACHINE_EXTENSIONS))
 

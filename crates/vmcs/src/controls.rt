@@ -20,7 +20,7 @@ pub enum ControlAnswer {
     Refused(u32),
 }
 
-// The word with the bits of set set and those of clear cleared: what is flexible and neither keeps its old value (SDM 3C, 31.5.1, algorithm 3).
+// The word with the bits of set set and those of clear cleared: what is flexible and neither keeps its old value (SDM 3D, A.2 to A.5; the Rust cites 31.5.1, algorithm 3, of an older edition).
 pub fn control_word(pair: Pair, old: u32, set: u32, clear: u32) -> u32
     ensures { λ r. ⌜ r ≡ controlWord 32 (pair .allowed0) (pair .allowed1) old set clear ⌝ }
 {
@@ -96,7 +96,7 @@ pub fn cr0_words(fixed0: u64, fixed1: u64, val: u64) -> CrWords
     )
 }
 
-// CR4: VMXE is always set.
+// CR4: VMXE is added to what is asked for, so that the read shadow has it too (`set_cr`).
 pub fn cr4_words(fixed0: u64, fixed1: u64, val: u64) -> CrWords
     ensures { λ r. ⌜ r ≡ cr4Words fixed0 fixed1 val ⌝ }
 {

@@ -36,8 +36,8 @@ pub struct Written {
     pub vmcs: Vmcs,
 }
 
-// The place of an encoding in the table, or 154 where it has none. The fields of a width and kind have the indexes from 0 on,
-// but that none has 0x482C.
+// The place of an encoding in the table, or 154 where it has none. The fields of a width and kind have the indexes from 0 on
+// without a gap, except that no field is 0x482C, so 0x482E is tested by itself.
 pub fn position(encoding: u64) -> usize
     ensures { λ r. ⌜ r ≡ positionOf encodings encoding ⌝ }
 {

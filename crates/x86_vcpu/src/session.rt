@@ -1,7 +1,8 @@
-// The calls that take a session: a record of Record::LENGTH bytes, tested first. The refusal is found from what it goes by, and an accepted step changes the record in place.
+// The calls that take a session: a record of Record::LENGTH bytes, tested first. The refusal is found from the few bytes that decide it, and an accepted step changes the record in place.
 ghost use mathlib.Core.Path.{_≡_};
 ghost use mathlib.Core.Bool.{true};
 ghost use Prim.Native.Nat.{ℕ};
+ghost use lib.Dec.{leb};
 ghost use lib.ListN.{length, replicate};
 ghost use Rattle.vcpu_events.specs.Queue.{injectInterrupt};
 ghost use Rattle.vcpu_events.specs.Entry.{injectionNumber};
@@ -16,6 +17,14 @@ use vcpu_session::Phase;
 
 // ---- Queueing.
 
+// 13: 64 events wait.
+fn is_full(b: &[u8]) -> bool
+    requires { ⌜ acceptedOf (now b) ≡ true ⌝ }
+    ensures { λ r. ⌜ r ≡ leb 64 (sessionOf (now (b .entry)) .queue .waiting) ⌝ }
+{
+    64 <= record::waiting_at(b)
+}
+
 // The refusal of an event, or 0: 2, a yes/no byte other than 0 and 1; 1, the session is ended; 13, 64 events wait.
 fn queue_refusal(b: &[u8], coded: u8) -> u32
     requires { ⌜ acceptedOf (now b) ≡ true ⌝ }
@@ -27,7 +36,7 @@ fn queue_refusal(b: &[u8], coded: u8) -> u32
     if record::phase_at(b) == Phase::ENDED {
         return 1;
     }
-    if 64 <= record::waiting_at(b) {
+    if is_full(b) {
         return 13;
     }
     0
@@ -69,7 +78,7 @@ fn inject_refusal(b: &[u8], vector: u64) -> u32
     if 255 < vector {
         return 12;
     }
-    if 64 <= record::waiting_at(b) {
+    if is_full(b) {
         return 13;
     }
     0

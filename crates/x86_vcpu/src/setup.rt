@@ -18,7 +18,7 @@ fn setup_accepts(bytes: &[u8], block: &[u8], a: &[u8], b: &[u8], msr: &[u8]) -> 
         & (msr.len() == FRAME_SIZE)
 }
 
-// Sets a fresh session up and adds its intercepts to the frames: refusals 2, 1, 6, 8, 9.
+// Sets a fresh session up and adds its intercepts to the frames: refusals 2, 1, 6, 8, 9. The frames' lengths are tested first, so their edits are not refused.
 #[no_mangle]
 pub extern "C" fn vcpu_setup(
     bytes: &mut [u8],

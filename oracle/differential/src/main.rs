@@ -4,7 +4,7 @@
 //!   differential [CASES] [SEED]
 //!
 //! It prints a line for each function, and ends with the totals. Exit status: 0 if nothing differs, 1 if
-//! something does or the archive lacks a function that is to be compared.
+//! something does, or the archive lacks a function that is to be compared or has one that is not.
 
 mod archive;
 mod buffer;
@@ -64,9 +64,8 @@ fn main() -> ExitCode {
         (comparison.run)(&mut Random::new(seed.wrapping_add((i as u64) << 32), true), cases, &mut totals);
     }
     let compared = |name: &str| COMPARISONS.iter().any(|comparison| comparison.names.contains(&name));
-    for name in archive::exported().filter(|name| !compared(name)) {
-        println!("{name}: no comparison");
-    }
+    let alone: Vec<&str> = archive::exported().filter(|name| !compared(name)).collect();
+    alone.iter().for_each(|name| println!("{name}: NO COMPARISON"));
     println!("total: {} compared, {} differ", totals.compared, totals.different);
-    ExitCode::from((totals.different > 0) as u8)
+    ExitCode::from((totals.different > 0 || !alone.is_empty()) as u8)
 }

@@ -1,11 +1,22 @@
 -- `entry_edits::after_entry` meets its contract. Assumes nothing.
 use Prim.Native.Nat.{_≤_}
+use native.Mathlib.Omega.{arith}
 use borrow.Author.Needs.{needs}
+use Rattle.vcpu_session.specs.declared.Progress.{Progress}
+use Rattle.vcpu_events.specs.Entry.{progressAfter, afterEntry}
+use Rattle.vcpu_events.specs.declared.Injection.{Injection}
+use Rattle.vcpu_events.specs.declared.Injection.the-variants.{Empty, Held, Written}
 use Rattle.record.proofs.RoundTrip.{session-lawful}
-use Rattle.entry_edits.proofs.Edits.{whole}
-use Rattle.entry_edits.proofs.EntryLaws.{Counts, counts, entered}
+use Rattle.record.proofs.Accepted.{whole}
 use Rattle.entry_edits.proofs.after_entry.Statement.{statement}
 use Rattle.entry_edits.proofs.after_entry.Tie as tie
+
+-- what a record asks of where the session stands after an entry
+counts : (p : Progress) (i : Injection) → p .held ≤ p .entries → (progressAfter p i .phase ≤ 4) × (progressAfter p i .held ≤ progressAfter p i .entries)
+unfolding progressAfter
+counts p Empty h = (omega arith, omega arith)
+counts p Held h = (omega arith, omega arith)
+counts p Written h = (omega arith, omega arith)
 
 -- the counts that were read
 held : (c : tie.After-progress-at) → c .progress-at .result .held ≤ c .progress-at .result .entries
@@ -18,16 +29,17 @@ below c κs =
     let p = c .before .before in
     (rw (p .progress-at .ensures) (p .before .before .before .pre .1), held p)
 
-counted : (c : tie.After-progress-after) → Counts (c .progress-after .result)
+counted : (c : tie.After-progress-after) → let n = c .progress-after .result in (n .phase ≤ 4) × (n .held ≤ n .entries)
 counted c = rw (c .progress-after .ensures) (counts _ _ (held (c .before .before .before)))
 
 writable : tie.Need-put-progress-requires
 writable c κs =
     let queue = c .before .before .before in
     let next = counted (queue .before .before .before .before .before .before .before .before .before .before) in
-    (queue .pop-written .ensures .accepted, next .phase, next .held)
+    (queue .pop-written .ensures .accepted, next .0, next .1)
 
 edited : tie.Need-returns
+unfolding afterEntry
 edited c =
     let fourth = c .before .before in
     let third = fourth .before .before .before .before in
@@ -36,9 +48,15 @@ edited c =
     let next = first .before .before in
     let front = next .before in
     let read = front .before .before in
-    let a = read .before .before .before .args in
-    entered (a .b .now) _ _ _ _ _ _ (a .stack) (a .injection) (read .progress-at .ensures) (front .front-at .ensures) (next .progress-after .ensures)
-    (first .put-stack .ensures) (second .put-injection .ensures) (third .pop-written .ensures) (fourth .put-progress .ensures)
+    rw (
+      third .pop-written .ensures .session,
+      second .put-injection .ensures .session,
+      first .put-stack .ensures .session,
+      next .progress-after .ensures,
+      front .front-at .ensures,
+      read .progress-at .ensures,
+    ) at
+    (fourth .put-progress .ensures)
 
 pub after-entry-spec : {M : Type 1} → statement M
 after-entry-spec =

@@ -2,7 +2,7 @@
 use borrow.Author.Needs.{needs}
 use Rattle.bits.proofs.Tests.{answers}
 use Rattle.vcpu_events.specs.Entry.{codeOf}
-use Rattle.entry_edits.proofs.Edits.{whole}
+use Rattle.record.proofs.Accepted.{whole}
 use Rattle.entry_edits.proofs.code_at.Statement.{statement}
 use Rattle.entry_edits.proofs.code_at.Tie as tie
 
@@ -11,6 +11,6 @@ unfolding codeOf
 code-at-spec =
     tie.close
     (tie.spec
-    (λ c. search (answers, c .if1 .taken))
+    (λ c. search answers)
     (λ c κs. search (whole, needs))
-    (λ c. search (answers, ← c .w32-at .ensures, c .before .if1 .left)))
+    (λ c. search (answers, ← c .w32-at .ensures)))

@@ -8,7 +8,7 @@ use Rattle.record.specs.Record as Record
 use Rattle.record.specs.Runs.{flagOf}
 use Rattle.record.specs.Codec.{sessionOf}
 use Rattle.record.proofs.Loops.{readAll-at}
-use Rattle.entry_edits.proofs.Edits.{whole}
+use Rattle.record.proofs.Accepted.{whole}
 use Rattle.entry_edits.proofs.front_at.Statement.{statement}
 use Rattle.entry_edits.proofs.front_at.Tie as tie
 

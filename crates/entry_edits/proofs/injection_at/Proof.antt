@@ -8,7 +8,7 @@ use Rattle.vmcs.specs.Names.VmcsGuestNW as VmcsGuestNW
 use Rattle.vcpu_events.specs.Queue.{frontOf}
 use Rattle.vcpu_events.specs.Entry.{isHeld, injectionOf}
 use Rattle.record.specs.Codec.{sessionOf}
-use Rattle.entry_edits.proofs.Edits.{whole}
+use Rattle.record.proofs.Accepted.{whole}
 use Rattle.entry_edits.proofs.injection_at.Statement.{statement}
 use Rattle.entry_edits.proofs.injection_at.Tie as tie
 
@@ -29,5 +29,5 @@ injection-at-spec =
     (λ c κs. search (whole, needs))
     (λ c κs. search (whole, needs))
     (λ c κs. search needs)
-    (λ c. search (answers, c .if2 .taken, ← judged (c .before), ← c .before .before .before .before .before .before .waiting-at .ensures))
-    (λ c. search (answers, c .if2 .left, ← judged (c .before), ← c .before .before .before .before .before .before .waiting-at .ensures)))
+    (λ c. search (answers, ← judged (c .before), ← c .before .before .before .before .before .before .waiting-at .ensures))
+    (λ c. search (answers, ← judged (c .before), ← c .before .before .before .before .before .before .waiting-at .ensures)))

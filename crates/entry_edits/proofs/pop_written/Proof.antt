@@ -1,5 +1,4 @@
 -- `entry_edits::pop_written` meets its contract. Assumes nothing.
-use mathlib.Core.Path.{refl}
 use borrow.Author.Needs.{needs}
 use Rattle.vcpu_events.specs.Entry.{queueAfter}
 use Rattle.entry_edits.proofs.pop_written.Statement.{statement}
@@ -14,7 +13,7 @@ pop-written-spec =
     (λ c. search needs)
     (λ c. search needs)
     (λ c κs. search needs)
-    (λ c. rw (c .enum-told .given .1) (record { accepted = c .before .before .before .pre; session = refl }))
-    (λ c. rw (c .enum-told2 .given .1) (record { accepted = c .before .before .before .pre; session = refl }))
+    (λ c. search (needs, c .enum-told .given .1))
+    (λ c. search (needs, c .enum-told2 .given .1))
     (λ c. search needs)
-    (λ c. rw (c .before .before .before .before .enum-told3 .given .1) (c .before .before .pop-front .ensures)))
+    (λ c. search (needs, c .before .before .before .before .enum-told3 .given .1)))

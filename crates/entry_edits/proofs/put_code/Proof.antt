@@ -2,7 +2,6 @@
 use borrow.Author.Needs.{needs}
 use Rattle.bits.proofs.Tests.{answers}
 use Rattle.vcpu_events.specs.Entry.{withCode}
-use Rattle.entry_edits.proofs.Edits.{unedited, fields}
 use Rattle.entry_edits.proofs.put_code.Statement.{statement}
 use Rattle.entry_edits.proofs.put_code.Tie as tie
 
@@ -15,5 +14,5 @@ put-code-spec =
     (λ c κs. search needs)
     (λ c κs. search needs)
     (λ c. search needs)
-    (λ c. fields _ (c .before .before .put-w32 .ensures) (search (answers, ← c .before .before .before .before .code-at .ensures, c .before .before .before .before .before .before .if1 .taken, ← c .before .before .before .before .before .before .before .vector-has-error-code .ensures)))
-    (λ c. unedited (c .before .before .before .pre) (search (answers, c .if1 .left, ← c .before .vector-has-error-code .ensures))))
+    (λ c. search (answers, ← c .before .before .before .before .code-at .ensures, ← c .before .before .before .before .before .before .before .vector-has-error-code .ensures))
+    (λ c. search (answers, ← c .before .vector-has-error-code .ensures)))

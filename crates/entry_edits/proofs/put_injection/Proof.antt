@@ -1,7 +1,6 @@
 -- `entry_edits::put_injection` meets its contract. Assumes nothing.
 use borrow.Author.Needs.{needs}
 use Rattle.vcpu_events.specs.Entry.{vmcsAfter}
-use Rattle.entry_edits.proofs.Edits.{unedited}
 use Rattle.entry_edits.proofs.put_injection.Statement.{statement}
 use Rattle.entry_edits.proofs.put_injection.Tie as tie
 
@@ -15,8 +14,8 @@ put-injection-spec =
     (λ c κs. search needs)
     (λ c. search needs)
     (λ c κs. search needs)
-    (λ c. unedited (c .before .before .before .pre) (rw (c .enum-told .given .1)))
+    (λ c. search (needs, c .enum-told .given .1))
     (λ c. search needs)
-    (λ c. rw (c .before .before .before .before .enum-told2 .given .1) (c .before .before .set-interrupt-window .ensures))
+    (λ c. search (needs, c .before .before .before .before .enum-told2 .given .1))
     (λ c. search needs)
-    (λ c. rw (c .before .before .before .before .enum-told3 .given .1) (c .before .before .inject-event .ensures)))
+    (λ c. search (needs, c .before .before .before .before .enum-told3 .given .1)))

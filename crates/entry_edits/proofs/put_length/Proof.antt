@@ -1,7 +1,8 @@
 -- `entry_edits::put_length` meets its contract. Assumes nothing.
 use borrow.Author.Needs.{needs}
+use Rattle.bits.proofs.Tests.{answers}
 use Rattle.vcpu_events.specs.Entry.{withLength}
-use Rattle.entry_edits.proofs.Edits.{whole, unedited, fields}
+use Rattle.record.proofs.Accepted.{whole}
 use Rattle.entry_edits.proofs.put_length.Statement.{statement}
 use Rattle.entry_edits.proofs.put_length.Tie as tie
 
@@ -15,5 +16,5 @@ put-length-spec =
     (λ c κs. search (whole, needs))
     (λ c κs. search needs)
     (λ c. search needs)
-    (λ c. fields _ (c .before .before .put-w32 .ensures) (rw (c .before .before .before .before .w32-at .ensures, ← c .before .before .before .before .before .before .before .before .from-vector .ensures, ← c .before .before .before .before .before .before .before .is-soft .ensures, c .before .before .before .before .before .before .if1 .taken)))
-    (λ c. unedited (c .before .before .before .before .pre) (rw (← c .before .before .from-vector .ensures, ← c .before .is-soft .ensures, c .if1 .left))))
+    (λ c. search (answers, ← c .before .before .before .before .w32-at .ensures, ← c .before .before .before .before .before .before .before .before .from-vector .ensures, ← c .before .before .before .before .before .before .before .is-soft .ensures))
+    (λ c. search (answers, ← c .before .before .from-vector .ensures, ← c .before .is-soft .ensures)))

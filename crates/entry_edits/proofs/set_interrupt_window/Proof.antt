@@ -1,7 +1,8 @@
 -- `entry_edits::set_interrupt_window` meets its contract. Assumes nothing.
 use borrow.Author.Needs.{needs}
+use Rattle.bits.proofs.Tests.{answers}
 use Rattle.vcpu_events.specs.Entry.{windowSet}
-use Rattle.entry_edits.proofs.Edits.{whole, fields}
+use Rattle.record.proofs.Accepted.{whole}
 use Rattle.entry_edits.proofs.set_interrupt_window.Statement.{statement}
 use Rattle.entry_edits.proofs.set_interrupt_window.Tie as tie
 
@@ -13,7 +14,7 @@ set-interrupt-window-spec =
     (λ c κs. search (whole, needs))
     (λ c κs. search needs)
     (λ c. search needs)
-    (λ c. fields _ (c .before .before .put-w32 .ensures) (rw (c .before .before .before .before .before .w32-at .ensures, c .before .before .before .before .if1 .taken)))
+    (λ c. search (answers, ← c .before .before .before .before .before .w32-at .ensures))
     (λ c κs. search needs)
     (λ c. search needs)
-    (λ c. fields _ (c .before .before .put-w322 .ensures) (rw (c .before .before .before .before .before .w32-at .ensures, c .before .before .before .before .if1 .left))))
+    (λ c. search (answers, ← c .before .before .before .before .before .w32-at .ensures)))

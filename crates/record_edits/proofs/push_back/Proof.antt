@@ -1,22 +1,15 @@
 -- `record_edits::push_back` meets its contract. Assumes nothing.
-use mathlib.Core.Path.{_≡_}
-use Prim.Native.Nat.{_^_, _<_}
-use native.Mathlib.Omega.{arith}
-use lib.ListN.{length}
 use borrow.Author.Needs.{needs}
-use Rattle.record.specs.Record as Record
-use Rattle.record.proofs.Accepted.{passed}
+use Rattle.record.specs.Runs.{Takes}
+use Rattle.record.proofs.Accepted.{whole}
 use Rattle.record_edits.proofs.Edits.{push-held}
 use Rattle.record_edits.proofs.push_back.Statement.{statement}
 use Rattle.record_edits.proofs.push_back.Tie as tie
 
-whole : (c : tie.After-slice-known) → length (c .before .args .b .now) ≡ Record.LENGTH
-whole c = passed (c .before .args .b .now) (c .before .pre .0) .whole
+vector : (c : tie.Start) → Takes 1 (c .args .e .vector)
+vector c = search needs
 
-small : (c : tie.Start) → c .args .e .vector < 256
-small c = search needs
-
-code : (c : tie.Start) → c .args .e .code < 256 ^ 4
+code : (c : tie.After-stored-code) → Takes 4 (c .stored-code .result)
 code c = search needs
 
 stores : tie.Need-returns
@@ -27,25 +20,25 @@ stores c =
     let first = second .before .before .before .before in
     let w = first .before .before in
     let t = w .before .before .before in
-    let a = t .before .args in
-    rw (last .put12 .ensures, third .put4 .ensures, second .put-flag .ensures, first .put1 .ensures, w .before .waiting-at .ensures, w .stored-code .ensures)
-    (push-held (a .b .now) (t .before .pre .0) (λ i. omega (arith, t .slice-known .given i)) (a .e) (small (t .before)) (code (t .before)) (t .before .pre .1))
+    push-held _ (t .before .pre .0) (t .slice-known .given) (t .before .args .e) (w .before .waiting-at .ensures) (w .stored-code .ensures)
+    (rw (w .before .waiting-at .ensures) (t .before .pre .1)) (vector (t .before)) (code w)
+    (first .put1 .ensures) (second .put-flag .ensures) (third .put4 .ensures) (last .put12 .ensures)
 
 pub push-back-spec : {M : Type 1} → statement M
 push-back-spec =
     tie.close
     (tie.spec
-    (λ c κs. omega (arith, whole (c .before)))
+    (λ c κs. search (whole, needs))
     (λ c. search needs)
     (λ c κs. search needs)
     (λ c. search needs)
-    (λ c κs. search (needs, whole (c .before .before .before .before)))
+    (λ c κs. search (needs, whole _ (c .before .before .before .before .before .pre .0)))
     (λ c. search needs)
-    (λ c κs. search (needs, whole (c .before .before .before .before .before .before .before .before)))
+    (λ c κs. search (needs, whole _ (c .before .before .before .before .before .before .before .before .before .pre .0)))
     (λ c. search needs)
     (λ c. search needs)
-    (λ c κs. search (needs, whole (c .before .before .before .before .before .before .before .before .before .before .before .before)))
+    (λ c κs. search (needs, whole _ (c .before .before .before .before .before .before .before .before .before .before .before .before .before .pre .0)))
     (λ c. search needs)
-    (λ c κs. search (needs, whole (c .before .before .before .before .before .before .before .before .before .before .before .before .before .before .before .before)))
+    (λ c κs. search (needs, whole _ (c .before .before .before .before .before .before .before .before .before .before .before .before .before .before .before .before .before .pre .0)))
     (λ c. search needs)
     stores)

@@ -1,7 +1,7 @@
 -- `record_edits::put_reg` meets its contract. Assumes nothing.
 use native.Mathlib.Omega.{arith}
 use borrow.Author.Needs.{needs}
-use Rattle.record.proofs.Accepted.{passed}
+use Rattle.record.proofs.Accepted.{whole}
 use Rattle.record_edits.proofs.Edits.{reg-held}
 use Rattle.record_edits.proofs.put_reg.Statement.{statement}
 use Rattle.record_edits.proofs.put_reg.Tie as tie
@@ -12,9 +12,8 @@ put-reg-spec =
     (tie.spec
     (λ c. search needs)
     (λ c. search needs)
-    (λ c κs. omega (arith, passed (c .before .before .args .b .now) (c .before .before .pre .0) .whole, c .before .before .pre .1))
+    (λ c κs. omega (arith, whole _ (c .before .before .pre .0)))
     (λ c. search needs)
     (λ c.
     let t = c .before .before .before .before in
-    let a = t .before .args in
-    rw (c .before .before .put8 .ensures) (reg-held (a .b .now) (t .before .pre .0) (λ i. omega (arith, t .slice-known .given i)) (a .index) (a .value) (t .before .pre .1) (search needs))))
+    reg-held _ (t .before .pre .0) (t .slice-known .given) (t .before .args .index) _ (t .before .pre .1) (search needs) (c .before .before .put8 .ensures)))

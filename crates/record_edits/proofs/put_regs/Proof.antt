@@ -6,8 +6,8 @@ use lib.Dec.{lit<}
 use borrow.Author.Needs.{needs}
 use Rattle.regs.specs.Registers.{listOf}
 use Rattle.record.specs.Runs.{Numbers}
-use Rattle.record.proofs.Accepted.{passed}
 use Rattle.record.proofs.Codecs.{all-below}
+use Rattle.record.proofs.Accepted.{whole}
 use Rattle.record_edits.proofs.Edits.{regs-held}
 use Rattle.record_edits.proofs.put_regs.Statement.{statement}
 use Rattle.record_edits.proofs.put_regs.Tie as tie
@@ -21,10 +21,9 @@ put-regs-spec =
     (tie.spec
     (λ c κs. search needs)
     (λ c. search needs)
-    (λ c κs. omega (arith, passed (c .before .before .before .before .args .b .now) (c .before .before .before .before .pre) .whole))
+    (λ c κs. omega (arith, whole _ (c .before .before .before .before .pre)))
     (λ c. search needs)
     (λ c.
     let w = c .before .before .before .before .before in
     let t = w .before in
-    let a = t .before .args in
-    rw (c .before .before .put-all8 .ensures, w .to-array .ensures) (regs-held (a .b .now) (t .before .pre) (λ i. omega (arith, t .slice-known .given i)) (a .g) (fits (t .before)))))
+    regs-held _ (t .before .pre) (t .slice-known .given) (t .before .args .g) (fits (t .before)) (rw (w .to-array .ensures) at (c .before .before .put-all8 .ensures))))

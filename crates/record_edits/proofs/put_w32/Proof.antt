@@ -1,8 +1,8 @@
 -- `record_edits::put_w32` meets its contract. Assumes nothing.
 use native.Mathlib.Omega.{arith}
 use borrow.Author.Needs.{needs}
-use Rattle.vmcs.specs.Field.{Word32, Word64, Natural}
-use Rattle.record.proofs.Accepted.{passed}
+use Rattle.vmcs.specs.Field.{Word32}
+use Rattle.record.proofs.Accepted.{whole}
 use Rattle.record_edits.proofs.Edits.{field-held}
 use Rattle.record_edits.proofs.put_w32.Statement.{statement}
 use Rattle.record_edits.proofs.put_w32.Tie as tie
@@ -13,9 +13,8 @@ put-w32-spec =
     (tie.spec
     (λ c. search needs)
     (λ c. search needs)
-    (λ c κs. omega (arith, passed (c .before .before .args .b .now) (c .before .before .pre .0) .whole, c .before .before .pre .1))
+    (λ c κs. omega (arith, whole _ (c .before .before .pre .0)))
     (λ c. search needs)
     (λ c.
     let t = c .before .before .before .before in
-    let a = t .before .args in
-    rw (c .before .before .put4 .ensures) (field-held (a .b .now) (t .before .pre .0) (λ i. omega (arith, t .slice-known .given i)) (Word32 (a .place)) (a .value) (t .before .pre .1) (search needs))))
+    field-held _ (t .before .pre .0) (t .slice-known .given) (Word32 (t .before .args .place)) _ (t .before .pre .1) (search needs) (c .before .before .put4 .ensures)))

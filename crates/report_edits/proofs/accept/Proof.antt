@@ -1,6 +1,7 @@
 -- `report_edits::accept` meets its contract: an accepted report has passed 17. Assumes nothing.
 use mathlib.Core.Path.{sym, _∙_}
 use borrow.Author.Needs.{needs}
+use Rattle.bits.proofs.Tests.{answers}
 use Rattle.vcpu_exit.proofs.Passes.{passes}
 use Rattle.vcpu_report.specs.ExitReport.{accepted}
 use Rattle.record.specs.Codec.{sessionOf}
@@ -14,30 +15,16 @@ after-exit-requires c κs =
     let a = start .args in
     (start .pre .0, passes (sessionOf (a .b .now)) (a .r) (start .pre .1) (sym (t .is-failed .ensures) ∙ c .before .before .if1 .left) .sum)
 
-fails : tie.Need-returns
-unfolding accepted
-fails c =
-    let t = c .before .before .before .before in
-    (rw (← t .before .is-failed .ensures, t .if1 .taken), rw (← t .before .is-failed .ensures, t .if1 .taken) (c .before .before .failed-entry .ensures))
-
-exits : tie.Need-returns-2
-unfolding accepted
-exits c =
-    let made = c .before .before .before .before in
-    let t = made .before in (
-      rw (← t .before .is-failed .ensures, t .if1 .left) (made .answer-of .ensures),
-      rw (← t .before .is-failed .ensures, t .if1 .left) (c .before .before .after-exit .ensures),
-    )
-
 pub accept-spec : {M : Type 1} → statement M
+unfolding accepted
 accept-spec =
     tie.close
     (tie.spec
     (λ c κs. search needs)
     (λ c κs. search needs)
     (λ c. search needs)
-    fails
+    (λ c. search (answers, ← c .before .before .before .before .before .is-failed .ensures))
     (λ c κs. search needs)
     after-exit-requires
     (λ c. search needs)
-    exits)
+    (λ c. search (answers, ← c .before .before .before .before .before .before .is-failed .ensures)))

@@ -5,11 +5,9 @@ use lib.Dec.{eqb, lit≤}
 use borrow.Author.Needs.{needs}
 use Rattle.definitions.specs.VmxExitReason as VmxExitReason
 use Rattle.vcpu_session.specs.Phase as Phase
-use Rattle.vcpu_session.specs.Session.{withProgress, withRegs, inPhase}
 use Rattle.vcpu_exit.specs.Reading.{reasonOf, isApic}
 use Rattle.vcpu_exit.specs.declared.Report.{Report}
-use Rattle.vcpu_report.specs.ExitReport.{registersAfter, phaseAfter, afterExit}
-use Rattle.report_edits.proofs.Edits.{next}
+use Rattle.vcpu_report.specs.ExitReport.{phaseAfter, afterExit}
 use Rattle.report_edits.proofs.after_exit.Statement.{statement}
 use Rattle.report_edits.proofs.after_exit.Tie as tie
 
@@ -29,9 +27,7 @@ returns c =
     let w3 = c .before .before in
     let w2 = w3 .before .before .before .before .before in
     let w1 = w2 .before .before .before .before .before in
-    let r = w1 .before .before .before .args .r in
-    let h2 = next (w1 .vmcs-after .ensures) (λ s. withRegs s (registersAfter r)) (rw (w2 .before .registers-after .ensures) at (w2 .put-regs .ensures)) in
-    next h2 (λ s. withProgress s (inPhase (s .progress) (phaseAfter r))) (rw (w3 .before .phase-after .ensures) at (w3 .put-phase .ensures))
+    rw (w2 .put-regs .ensures .session, w1 .vmcs-after .ensures .session, w2 .before .registers-after .ensures, w3 .before .phase-after .ensures) at (w3 .put-phase .ensures)
 
 pub after-exit-spec : {M : Type 1} → statement M
 after-exit-spec =

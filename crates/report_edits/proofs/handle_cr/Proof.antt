@@ -1,12 +1,10 @@
 -- `report_edits::handle_cr` meets its contract. Assumes nothing.
-use mathlib.Core.Path.{ap, _∙_}
-use borrow.Author.Tests.{eq-eqb, ne-eqb}
+use mathlib.Core.Path.{_∙_}
 use borrow.Author.Needs.{needs}
-use Rattle.vcpu_session.specs.Session.{withVmcs}
-use Rattle.vcpu_session.specs.declared.Session.{Session}
-use Rattle.vcpu_exit.specs.Refusal.{entryPair}
-use Rattle.vcpu_handlers.specs.Handlers.{crHandled, eferUpdated}
-use Rattle.report_edits.proofs.Edits.{accepted-whole, next}
+use Rattle.bits.proofs.Tests.{answers}
+use Rattle.vcpu_handlers.specs.Handlers.{crHandled}
+use Rattle.record.proofs.Capabilities.{cr0-read, cr4-read}
+use Rattle.record.proofs.Accepted.{whole}
 use Rattle.report_edits.proofs.handle_cr.Statement.{statement}
 use Rattle.report_edits.proofs.handle_cr.Tie as tie
 
@@ -16,7 +14,8 @@ unfolding crHandled
 moves-cr4 c =
     let read = c .before .before .before .before in
     let t = read .before .before .before in
-    rw (← t .is-move-to .ensures, read .before .before .if1 .taken, ← read .cr4-fixed-at .ensures, ← t .before .moved-value .ensures) (c .before .before .set-cr4 .ensures)
+    let b = t .before .before .before .args .b .now in
+    search (answers, ← t .is-move-to .ensures, ← t .before .moved-value .ensures, ← (read .fixed-at .ensures ∙ cr4-read b))
 
 -- a move to CR0 with PG: setting CR0 leaves the capabilities
 moves-cr0-paging : tie.Need-returns-2
@@ -24,29 +23,22 @@ unfolding crHandled
 moves-cr0-paging c =
     let pair = c .before .before .before .before in
     let made = pair .before .before .before .before .before in
-    let fixed = made .before .before in
-    let t = fixed .before .before .before in
+    let read = made .before .before in
+    let t = read .before .before .before in
+    let b = t .before .before .before .args .b .now in
     let held = made .set-cr0 .ensures in
-    let same = pair .entry-pair-at .ensures ∙ ap (λ (s : Session). entryPair (s .capabilities)) (held .session) in
-    rw (
-      ← t .is-move-to .ensures,
-      fixed .before .before .if1 .left,
-      ← t .before .moved-value .ensures,
-      eq-eqb _ _ (pair .before .before .if2 .taken),
-      ← fixed .cr0-fixed-at .ensures,
-      ← same,
-    )
-    (next held (λ s. withVmcs s (eferUpdated (s .vmcs) (pair .entry-pair-at .result) (t .before .before .before .args .r .efer))) (c .before .before .update-efer .ensures))
+    let same = rw (held .session) at (pair .entry-pair-at .ensures) in
+    let updated = rw (held .session) at (c .before .before .update-efer .ensures) in
+    search (answers, ← t .is-move-to .ensures, ← t .before .moved-value .ensures, ← (read .fixed-at2 .ensures ∙ cr0-read b), ← same)
 
 -- a move to CR0 without PG
 moves-cr0 : tie.Need-returns-3
 unfolding crHandled
 moves-cr0 c =
-    let made = c .before .before .before in
-    let fixed = made .before .before in
-    let t = fixed .before .before .before in
-    rw (← t .is-move-to .ensures, fixed .before .before .if1 .left, ← t .before .moved-value .ensures, ne-eqb _ _ (c .if2 .left), ← fixed .cr0-fixed-at .ensures)
-    (made .set-cr0 .ensures)
+    let read = c .before .before .before .before .before in
+    let t = read .before .before .before in
+    let b = t .before .before .before .args .b .now in
+    search (answers, ← t .is-move-to .ensures, ← t .before .moved-value .ensures, ← (read .fixed-at2 .ensures ∙ cr0-read b))
 
 pub handle-cr-spec : {M : Type 1} → statement M
 handle-cr-spec =
@@ -54,13 +46,13 @@ handle-cr-spec =
     (tie.spec
     (λ c κs. search needs)
     (λ c κs. search needs)
-    (λ c κs. search (accepted-whole, needs))
+    (λ c κs. search (whole, needs))
     (λ c κs. search needs)
     (λ c. search needs)
     moves-cr4
-    (λ c κs. search (accepted-whole, needs))
+    (λ c κs. search (whole, needs))
     (λ c κs. search needs)
-    (λ c κs. search (accepted-whole, needs))
+    (λ c κs. search (whole, needs))
     (λ c κs. search needs)
     (λ c. search needs)
     moves-cr0-paging

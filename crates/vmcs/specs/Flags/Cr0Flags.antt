@@ -1,4 +1,4 @@
--- CR0 (SDM 3A, 2.5), by their places. Assumes nothing.
+-- The bits of CR0 (SDM 3A, 2.5), by their places. Assumes nothing.
 use Prim.Native.Nat.{ℕ}
 
 abbrev pub PROTECTED_MODE_ENABLE : ℕ

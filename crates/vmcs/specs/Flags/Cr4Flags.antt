@@ -1,4 +1,4 @@
--- CR4 (SDM 3A, 2.5), by their places. Assumes nothing.
+-- The bits of CR4 (SDM 3A, 2.5), by their places. Assumes nothing.
 use Prim.Native.Nat.{ℕ}
 
 abbrev pub PAGE_SIZE_EXTENSION : ℕ

@@ -1,4 +1,4 @@
--- IA32_EFER (SDM 3A, 2.2.1; AMD64 volume 2, 3.1.7, for the bits above 11), by their places. Assumes nothing.
+-- The bits of IA32_EFER (SDM 3A, 2.2.1; AMD64 volume 2, 3.1.7, for the bits above 11), by their places. Assumes nothing.
 use Prim.Native.Nat.{ℕ}
 
 abbrev pub SYSTEM_CALL_EXTENSIONS : ℕ

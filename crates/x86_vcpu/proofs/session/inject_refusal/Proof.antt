@@ -3,7 +3,7 @@ use mathlib.Core.Path.{_≡_}
 use mathlib.Core.Bool.{false}
 use lib.ListN.{length}
 use borrow.Author.Needs.{needs}
-use borrow.Author.Tests.{lt-ltb, le-ltb, le-leb, lt-leb, eq-eqb, ne-eqb}
+use borrow.Author.Tests.{lt-ltb, le-ltb, eq-eqb, ne-eqb}
 use Rattle.vcpu_session.specs.Session.{isUnlawful}
 use Rattle.vcpu_session.proofs.LawfulLaws.{of-lawful}
 use Rattle.vcpu_events.specs.Queue.{queueEvent, injectInterrupt}
@@ -33,12 +33,12 @@ inject-refusal-spec =
     (λ c.
     let t = c .before .before in
     rw (lawful (t .before .before .before), ← (t .before .phase-at .ensures), ne-eqb _ _ (t .if1 .left), ne-eqb _ _ (c .before .if2 .left), lt-ltb _ _ (c .if3 .taken)))
-    (λ c κs. whole (c .before .before .before .before .before))
+    (λ c κs. c .before .before .before .before .before .pre)
     (λ c.
     let u = c .before .before in
     let t = u .before .before in
-    rw (lawful (t .before .before .before), ← (t .before .phase-at .ensures), ne-eqb _ _ (t .if1 .left), ne-eqb _ _ (u .before .if2 .left), le-ltb _ _ (u .if3 .left), ← (c .before .waiting-at .ensures), le-leb _ _ (c .if4 .taken)))
+    rw (lawful (t .before .before .before), ← (t .before .phase-at .ensures), ne-eqb _ _ (t .if1 .left), ne-eqb _ _ (u .before .if2 .left), le-ltb _ _ (u .if3 .left), ← (c .before .is-full .ensures), c .if4 .taken))
     (λ c.
     let u = c .before .before in
     let t = u .before .before in
-    rw (lawful (t .before .before .before), ← (t .before .phase-at .ensures), ne-eqb _ _ (t .if1 .left), ne-eqb _ _ (u .before .if2 .left), le-ltb _ _ (u .if3 .left), ← (c .before .waiting-at .ensures), lt-leb _ _ (c .if4 .left))))
+    rw (lawful (t .before .before .before), ← (t .before .phase-at .ensures), ne-eqb _ _ (t .if1 .left), ne-eqb _ _ (u .before .if2 .left), le-ltb _ _ (u .if3 .left), ← (c .before .is-full .ensures), c .if4 .left)))

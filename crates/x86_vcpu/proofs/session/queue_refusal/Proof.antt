@@ -3,7 +3,7 @@ use mathlib.Core.Path.{_≡_}
 use mathlib.Core.Bool.{false}
 use lib.ListN.{length}
 use borrow.Author.Needs.{needs}
-use borrow.Author.Tests.{lt-ltb, le-ltb, le-leb, lt-leb, eq-eqb, ne-eqb}
+use borrow.Author.Tests.{lt-ltb, le-ltb, eq-eqb, ne-eqb}
 use Rattle.vcpu_session.specs.Session.{isUnlawful}
 use Rattle.vcpu_session.proofs.LawfulLaws.{of-lawful}
 use Rattle.vcpu_events.specs.Queue.{queueEvent}
@@ -29,10 +29,10 @@ queue-refusal-spec =
     (λ c vector code. rw (lt-ltb _ _ (c .if1 .taken)))
     (λ c κs. whole (c .before .before))
     (λ c vector code. rw (le-ltb _ _ (c .before .before .if1 .left), lawful (c .before .before .before .before), ← (c .before .phase-at .ensures), eq-eqb _ _ (c .if2 .taken)))
-    (λ c κs. whole (c .before .before .before .before))
+    (λ c κs. c .before .before .before .before .pre)
     (λ c vector code.
     let t = c .before .before in
-    rw (le-ltb _ _ (t .before .before .if1 .left), lawful (t .before .before .before .before), ← (t .before .phase-at .ensures), ne-eqb _ _ (t .if2 .left), ← (c .before .waiting-at .ensures), le-leb _ _ (c .if3 .taken)))
+    rw (le-ltb _ _ (t .before .before .if1 .left), lawful (t .before .before .before .before), ← (t .before .phase-at .ensures), ne-eqb _ _ (t .if2 .left), ← (c .before .is-full .ensures), c .if3 .taken))
     (λ c vector code.
     let t = c .before .before in
-    rw (le-ltb _ _ (t .before .before .if1 .left), lawful (t .before .before .before .before), ← (t .before .phase-at .ensures), ne-eqb _ _ (t .if2 .left), ← (c .before .waiting-at .ensures), lt-leb _ _ (c .if3 .left))))
+    rw (le-ltb _ _ (t .before .before .if1 .left), lawful (t .before .before .before .before), ← (t .before .phase-at .ensures), ne-eqb _ _ (t .if2 .left), ← (c .before .is-full .ensures), c .if3 .left)))

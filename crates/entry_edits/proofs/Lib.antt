@@ -1,2 +1,0 @@
-pub mod Edits
-pub mod EntryLaws

@@ -1,2 +1,0 @@
--- The laws behind the proofs of `report_edits`.
-pub mod Edits

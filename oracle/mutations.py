@@ -224,7 +224,7 @@ MUTATIONS = [
         ("record_edits::put_phase(b, Phase::READY);", "record_edits::put_phase(b, Phase::RUNNING);"),
         ("*resumed = p.launched as u8;", "*resumed = 0;"),
         ("        let refusal = entry_edits::entry_refusal(bytes);\n", "        let refusal = entry_edits::entry_refusal(bytes);\n        *resumed = 0;\n"),
-        ("    if b.len() != 4096 {", "    if b.len() < 4096 {"),
+        ("    if b.len() != FRAME_SIZE {", "    if b.len() < FRAME_SIZE {"),
         ("    clear(msr);\n", ""),
     ),
     *in_file(
@@ -283,12 +283,12 @@ MUTATIONS = [
     ),
     *in_file(
         "report_block/src/lib.rt",
+        ("b.len() == Layout::LENGTH", "b.len() >= Layout::LENGTH"),
         ("pub const CS_RIGHTS: usize = 196;", "pub const CS_RIGHTS: usize = 200;"),
         ("pub const CPUID_ECX: usize = 236;", "pub const CPUID_ECX: usize = 232;"),
     ),
     *in_file(
         "x86_vcpu/src/report.rt",
-        ("(block.len() == Layout::LENGTH)", "(block.len() >= Layout::LENGTH)"),
         ("        if refusal != 0 {\n", "        if refusal != 0 {\n            *answer = [0; 8];\n"),
         ("if record::phase_at(bytes) != Phase::RUNNING {", "if record::phase_at(bytes) == Phase::ENDED {",
          "report_refusal finds 1 too, after the block is read"),

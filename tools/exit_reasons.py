@@ -26,14 +26,16 @@ pub struct VmxExitReason {}
 impl VmxExitReason {
 """
 text += "\n".join("    pub const %s: u32 = %d;\n" % r for r in reasons) + "}\n"
+text += "\nconst EXIT_REASONS: [u32; %d] = [\n" % len(reasons)
+text += "".join("    VmxExitReason::%s,\n" % name for name, _ in reasons) + "];\n"
 text += """
 // Every name in the order of its number: the contract ties each to its number.
 pub fn exit_reasons() -> [u32; %d]
     ensures { λ r. ⌜ r ≡ exitReasons ⌝ }
 {
-    [
+    EXIT_REASONS
+}
 """ % len(reasons)
-text += "".join("        VmxExitReason::%s,\n" % name for name, _ in reasons) + "    ]\n}\n"
 out["src/exit_reason.rt"] = text
 
 text = """-- The basic exit reasons (SDM 3D, appendix C) by their names in definitions.rs. Assumes nothing.

@@ -67,13 +67,17 @@ for name, numbers, comment in (
 ):
     text += "\n// %s\npub const %s: [u8; 32] = [\n" % (comment, name) + "".join("    %d,\n" % n for n in numbers) + "];\n"
 text += """
+const PLACES: [usize; 154] = [
+"""
+text += "".join("    %s::%s,\n" % (enum, name) for _, enum, name in fields) + "];\n"
+text += """
 // Every name of names.rt in the order of the table: the contract ties each to its encoding.
 pub fn places() -> [usize; 154]
     ensures { λ r. ⌜ r ≡ placesNamed ⌝ }
 {
-    [
+    PLACES
+}
 """
-text += "".join("        %s::%s,\n" % (enum, name) for _, enum, name in fields) + "    ]\n}\n"
 out["src/table.rt"] = text
 
 for enum, members in enums.items():

@@ -20,6 +20,7 @@ use Rattle.vcpu_events.specs.Entry.{wordOf, codeOf, withCode, withLength, injec
 use Rattle.vcpu_events.specs.declared.Event as Core
 use Rattle.record.specs.Runs.{Numbers}
 use Rattle.record.specs.Fitting.{VmcsFits}
+use Rattle.record_edits.proofs.Fits.{put-fits}
 use Rattle.calls.proofs.Choices.{cond-all}
 
 -- ---- one write
@@ -107,22 +108,6 @@ module _ (v : Vmcs) (e : Core.Event) (s : Sized v) where
 
 -- ---- values within their fields
 
-pub below-set : {m : ℕ} (l : List ℕ) (i x : ℕ) → Below m l → x < m → Below m (set l i x)
-below-set [] i x b h j = b j
-below-set (y ∷ l) zero x b h zero = h
-below-set (y ∷ l) zero x b h (suc j) = b (suc j)
-below-set (y ∷ l) (suc i) x b h zero = b 0
-below-set (y ∷ l) (suc i) x b h (suc j) = below-set l i x (λ k. b (suc k)) h j
-
-pub numbers-set : {n k : ℕ} (l : List ℕ) (i x : ℕ) → Numbers n k l → x < 256 ^ k → Numbers n k (set l i x)
-numbers-set l i x m h = record { sized = length-set l i x ∙ m .sized; below = below-set l i x (m .below) h }
-
-pub put-fits : (v : Vmcs) (g : Field) (x : ℕ) → VmcsFits v → x < 2 ^ widthBits g → VmcsFits (put v g x)
-put-fits v (Word16 k) x m h = record { w16 = numbers-set (v .w16) k x (m .w16) h; w32 = m .w32; w64 = m .w64; natural = m .natural }
-put-fits v (Word64 k) x m h = record { w16 = m .w16; w32 = m .w32; w64 = numbers-set (v .w64) k x (m .w64) h; natural = m .natural }
-put-fits v (Word32 k) x m h = record { w16 = m .w16; w32 = numbers-set (v .w32) k x (m .w32) h; w64 = m .w64; natural = m .natural }
-put-fits v (Natural k) x m h = record { w16 = m .w16; w32 = m .w32; w64 = m .w64; natural = numbers-set (v .natural) k x (m .natural) h }
-
 pub value-fits : (v : Vmcs) (g : Field) → VmcsFits v → valueOf v g < 2 ^ widthBits g
 value-fits v (Word16 k) m = m .w16 .below k
 value-fits v (Word64 k) m = m .w64 .below k
@@ -149,7 +134,7 @@ all-fit (w ∷ ws) t = (ltb→lt _ _ (and-l (ltb (w .value) (2 ^ widthBits (w .f
 
 pub applied-fits : (ws : List Write) (v : Vmcs) → VmcsFits v → AllFit ws → VmcsFits (applied ws v)
 applied-fits [] v m a = m
-applied-fits (w ∷ ws) v m a = applied-fits ws (put v (w .field) (w .value)) (put-fits v (w .field) (w .value) m (a .0)) (a .1)
+applied-fits (w ∷ ws) v m a = applied-fits ws (put v (w .field) (w .value)) (put-fits m (w .field) (w .value) (a .0)) (a .1)
 
 pub fits-sized : (v : Vmcs) → VmcsFits v → Sized v
 fits-sized v m = record { w16 = m .w16 .sized; w32 = m .w32 .sized; w64 = m .w64 .sized; natural = m .natural .sized }

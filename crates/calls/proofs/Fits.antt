@@ -51,43 +51,23 @@ use Rattle.x86_vcpu.proofs.SetupCalls.{keeps-setup}
 use Rattle.calls.proofs.Keeps.{keeps-queue-step, keeps-interrupt, keeps-field, keeps-register, keeps-apic, keeps-entry}
 use Rattle.calls.specs.Reference.{Call, setup, queueEvent, injectInterrupt, entry, exitReport, apicValue, fieldWrite, registerWrite, WellTyped}
 use Rattle.calls.proofs.Choices.{cond-all}
-use Rattle.calls.proofs.Fields.{numbers-set, put-fits, value-fits, applied-fits}
-use Rattle.calls.proofs.RegisterFits.{reg-fits}
+use Rattle.record_edits.proofs.Fits.{numbers-set, length-shifted, numbers-shifted, reg-fits, put-fits}
+use Rattle.calls.proofs.Fields.{value-fits, applied-fits}
 use Rattle.calls.proofs.SetupFits.{writes-fit, capabilities-fit}
 use Rattle.calls.proofs.ReportFits.{block-fits, report-fits}
 use Rattle.calls.proofs.Sessions.{hasBuffers, next, Sound}
-
--- ---- arrays
-
-below-last : {m : ℕ} (l : List ℕ) (x : ℕ) → Below m l → x < m → Below m (l ++ (x ∷ []))
-below-last [] x b h zero = h
-below-last [] x b h (suc i) = b 0
-below-last (y ∷ l) x b h zero = b 0
-below-last (y ∷ l) x b h (suc i) = below-last l x (λ k. b (suc k)) h i
-
-below-rest : {m : ℕ} (l : List ℕ) → Below m l → Below m (drop 1 l)
-below-rest [] b = b
-below-rest (x ∷ l) b = λ i. b (suc i)
-
-shifted-long : {A : Type 0} (x : A) (l : List A) → length l ≡ 64 → length (shifted x l) ≡ 64
-unfolding shifted
-shifted-long x l h = omega (arith, length-append (drop 1 l) (x ∷ []), length-drop 1 l)
-
-shifted-fits : {k : ℕ} (l : List ℕ) → 0 < 256 ^ k → Numbers 64 k l → Numbers 64 k (shifted 0 l)
-unfolding shifted
-shifted-fits l z m = record { sized = unfold shifted in shifted-long 0 l (m .sized); below = below-last (drop 1 l) 0 (below-rest l (m .below)) z }
 
 -- ---- the parts of an entry
 
 stack-fits : (v : Vmcs) (launched : Bool) (stack : ℕ) → stack < 2 ^ 64 → VmcsFits v → VmcsFits (withStack v launched stack)
 unfolding withStack
-stack-fits v launched stack h m = cond-all VmcsFits launched _ _ (λ _. m) (λ _. put-fits v VmcsHostNW.RSP stack m h)
+stack-fits v launched stack h m = cond-all VmcsFits launched _ _ (λ _. m) (λ _. put-fits m VmcsHostNW.RSP stack h)
 
 code-fits : (v : Vmcs) (e : Core.Event) → e .code < 2 ^ 32 → VmcsFits v → VmcsFits (withCode v e)
 unfolding withCode codeOf
 code-fits v e h m =
     cond-all VmcsFits (hasErrorCode (e .vector)) _ _
-    (λ _. put-fits v VmcsControl32.VMENTRY_EXCEPTION_ERR_CODE _ m
+    (λ _. put-fits m VmcsControl32.VMENTRY_EXCEPTION_ERR_CODE _
     (cond-all (λ (x : ℕ). x < 2 ^ 32) (e .coded) _ _ (λ _. h) (λ _. value-fits v VmcsReadOnly32.VMEXIT_INTERRUPTION_ERR_CODE m)))
     (λ _. m)
 
@@ -95,18 +75,18 @@ length-fits : (v : Vmcs) (e : Core.Event) → VmcsFits v → VmcsFits (withLengt
 unfolding withLength
 length-fits v e m =
     cond-all VmcsFits (isSoft (fromVector (e .vector))) _ _
-    (λ _. put-fits v VmcsControl32.VMENTRY_INSTRUCTION_LEN _ m (value-fits v VmcsReadOnly32.VMEXIT_INSTRUCTION_LEN m)) (λ _. m)
+    (λ _. put-fits m VmcsControl32.VMENTRY_INSTRUCTION_LEN _ (value-fits v VmcsReadOnly32.VMEXIT_INSTRUCTION_LEN m)) (λ _. m)
 
 injected-fits : (v : Vmcs) (e : Core.Event) → e .vector < 256 → e .code < 2 ^ 32 → VmcsFits v → VmcsFits (injected v e)
 unfolding injected
 injected-fits v e h k m =
-    put-fits (withLength (withCode v e) e) VmcsControl32.VMENTRY_INTERRUPTION_INFO_FIELD (wordOf e) (length-fits (withCode v e) e (code-fits v e k m))
+    put-fits (length-fits (withCode v e) e (code-fits v e k m)) VmcsControl32.VMENTRY_INTERRUPTION_INFO_FIELD (wordOf e)
     (event-bits (e .vector) (hasErrorCode (e .vector)) h .fits)
 
 window-fits : (v : Vmcs) → VmcsFits v → VmcsFits (windowSet v true)
 unfolding windowSet
 window-fits v m =
-    put-fits v VmcsControl32.PRIMARY_PROCBASED_EXEC_CONTROLS _ m
+    put-fits m VmcsControl32.PRIMARY_PROCBASED_EXEC_CONTROLS _
     (or-lt 32 (valueOf v VmcsControl32.PRIMARY_PROCBASED_EXEC_CONTROLS) 4 (value-fits v VmcsControl32.PRIMARY_PROCBASED_EXEC_CONTROLS m) (lit< tt))
 
 module _ (s : Session) (h : Sound s) where
@@ -118,9 +98,9 @@ module _ (s : Session) (h : Sound s) where
       let q = h .fits .queue in
       record {
         waiting = omega arith;
-        vectors = numbers-set (s .queue .vectors) (s .queue .waiting) (e .vector) (q .vectors) v;
+        vectors = numbers-set (s .queue .waiting) (e .vector) (q .vectors) v;
         coded = length-set (s .queue .coded) (s .queue .waiting) (e .coded) ∙ q .coded;
-        codes = numbers-set (s .queue .codes) (s .queue .waiting) (cond (e .coded) (e .code) 0) (q .codes)
+        codes = numbers-set (s .queue .waiting) (cond (e .coded) (e .code) 0) (q .codes)
             (cond-all (λ (x : ℕ). x < 2 ^ 32) (e .coded) _ _ (λ _. k) (λ _. lit< tt));
       }
 
@@ -190,9 +170,9 @@ module _ (s : Session) (h : Sound s) where
             (stack-fits (s .vmcs) (s .progress .launched) stack w (h .fits .vmcs));
         queue = record {
           waiting = omega (arith, q .waiting);
-          vectors = shifted-fits (s .queue .vectors) (lit< tt) (q .vectors);
-          coded = shifted-long false (s .queue .coded) (q .coded);
-          codes = shifted-fits (s .queue .codes) (lit< tt) (q .codes);
+          vectors = numbers-shifted 0 (q .vectors) (lit< tt);
+          coded = length-shifted false (s .queue .coded) (q .coded);
+          codes = numbers-shifted 0 (q .codes) (lit< tt);
         };
         capabilities = h .fits .capabilities;
       }
@@ -220,7 +200,7 @@ module _ (s : Session) (h : Sound s) where
       (λ u. record {
         progress = h .fits .progress;
         regs = h .fits .regs;
-        vmcs = put-fits (s .vmcs) (fieldOf e) v (h .fits .vmcs) (fits-field e v (leb-false 154 (positionOf encodings e) t) (ltb-false (greatestOf e) v u));
+        vmcs = put-fits (h .fits .vmcs) (fieldOf e) v (fits-field e v (leb-false 154 (positionOf encodings e) t) (ltb-false (greatestOf e) v u));
         queue = h .fits .queue;
         capabilities = h .fits .capabilities;
       }))))

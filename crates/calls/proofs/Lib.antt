@@ -8,7 +8,6 @@ pub mod SetupNumbers
 pub mod SetupFits
 pub mod ReportNumbers
 pub mod Keeps
-pub mod RegisterFits
 pub mod ReportFits
 pub mod Fits
 pub mod Steps

@@ -1,6 +1,6 @@
 -- A report keeps a session within its types. Assumes nothing.
 use Prim.Native.Nat.{ℕ, zero, suc, _+_, _/_, _%_, _^_, _<_}
-use mathlib.Core.Path.{_≡_, refl}
+use mathlib.Core.Path.{_≡_, refl, sym, subst}
 use mathlib.Core.Bool.{false}
 use mathlib.Core.List.{List, [], _∷_}
 use native.Mathlib.Omega.{arith}
@@ -46,7 +46,8 @@ use Rattle.record.specs.Runs.{All, Numbers, readAll, numbers}
 use Rattle.record.specs.Fitting.{Fitting, VmcsFits, PairFits, FixedFits, CapabilitiesFit}
 use Rattle.calls.proofs.Choices.{cond-all}
 use Rattle.calls.proofs.Fields.{_⊗_, value-fits, applied-fits}
-use Rattle.calls.proofs.RegisterFits.{listed-fits, reg-fits}
+use Rattle.record.proofs.Codecs.{registers-read}
+use Rattle.record_edits.proofs.Fits.{reg-fits}
 use Rattle.calls.proofs.SetupFits.{little-below, cr-value, cr-mask, word-fits}
 use Rattle.calls.proofs.Sessions.{Sound}
 
@@ -85,7 +86,7 @@ pub block-fits : (block : List ℕ) → Below 256 block → FitsReport (reportOf
 unfolding reportOf cpuidOf
 block-fits block b =
     record {
-      regs = listed-fits (numbers 8 16 (drop Layout.REGS block)) (numbers-below 16 (drop Layout.REGS block) (below-drop Layout.REGS block b)) .below;
+      regs = subst (Below (256 ^ 8)) (sym (registers-read (drop Layout.REGS block))) (numbers-below 16 (drop Layout.REGS block) (below-drop Layout.REGS block b));
       rip = p8 Layout.RIP;
       rsp = p8 Layout.RSP;
       rflags = p8 Layout.RFLAGS;

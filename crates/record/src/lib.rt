@@ -130,7 +130,7 @@ pub fn waiting_at(b: &[u8]) -> u8
     words::get1(b, Record::WAITING)
 }
 
-pub fn regs_at(b: &[u8]) -> GeneralRegisters
+fn regs_at(b: &[u8]) -> GeneralRegisters
     requires { ⌜ length (now b) ≡ LENGTH ⌝ }
     ensures { λ r. ⌜ r ≡ sessionOf (now (b .entry)) .regs ⌝ }
 {
@@ -139,7 +139,7 @@ pub fn regs_at(b: &[u8]) -> GeneralRegisters
     regs::of_array(regs)
 }
 
-pub fn vmcs_at(b: &[u8]) -> Vmcs
+fn vmcs_at(b: &[u8]) -> Vmcs
     requires { ⌜ length (now b) ≡ LENGTH ⌝ }
     ensures { λ r. ⌜ r ≡ sessionOf (now (b .entry)) .vmcs ⌝ }
 {
@@ -159,7 +159,7 @@ pub fn vmcs_at(b: &[u8]) -> Vmcs
     }
 }
 
-pub fn queue_at(b: &[u8]) -> Queue
+fn queue_at(b: &[u8]) -> Queue
     requires { ⌜ length (now b) ≡ LENGTH ⌝ }
     ensures { λ r. ⌜ r ≡ sessionOf (now (b .entry)) .queue ⌝ }
 {
@@ -216,7 +216,7 @@ pub fn fixed_at(b: &[u8], at: usize) -> Fixed
     }
 }
 
-pub fn capabilities_at(b: &[u8]) -> Capabilities
+fn capabilities_at(b: &[u8]) -> Capabilities
     requires { ⌜ length (now b) ≡ LENGTH ⌝ }
     ensures { λ r. ⌜ r ≡ sessionOf (now (b .entry)) .capabilities ⌝ }
 {
@@ -269,7 +269,7 @@ pub fn reg_at(b: &[u8], index: usize) -> u64
 }
 
 // The fields at a place of the array of their width.
-pub fn w16_at(b: &[u8], place: usize) -> u16
+fn w16_at(b: &[u8], place: usize) -> u16
     requires { ⌜ (length (now b) ≡ LENGTH) × (place < 17) ⌝ }
     ensures { λ r. ⌜ r ≡ valueOf (sessionOf (now (b .entry)) .vmcs) (Word16 place) ⌝ }
 {

@@ -186,7 +186,7 @@ pub fn put_all8(b: &mut [u8], at: usize, vs: &[u64])
 // ---- Yes/no bytes.
 
 // A yes/no byte.
-pub fn flag_byte(on: bool) -> u8
+fn flag_byte(on: bool) -> u8
     ensures { λ r. ⌜ r ≡ flag on ⌝ }
 {
     if on { 1 } else { 0 }

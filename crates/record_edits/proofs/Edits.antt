@@ -30,6 +30,7 @@ use Rattle.record.specs.Fitting.{ProgressFits, VmcsFits, QueueFits, Fitting}
 use Rattle.record.proofs.Accepted.{whole}
 use Rattle.record.proofs.RoundTrip.{lawful-accepted, session-read, session-fits, session-lawful, record-written}
 use Rattle.record_edits.specs.Holds.{Holds}
+use Rattle.record_edits.proofs.Fits.{numbers-set, length-shifted, numbers-shifted, listed, put-fits}
 use Rattle.record_edits.proofs.Parts.{Form, length-run, Spells, value-put, element-put, run-shifted}
 
 -- ---- the bytes of a session
@@ -44,53 +45,6 @@ held {b} {s} h phase waiting counts =
 
 pub held-bytes : {s : Session} {b : List ℕ} → Below 256 b → Holds b s → b ≡ encodeOf s
 held-bytes {s} {b} below h = sym (record-written b (whole b (h .accepted)) below (h .accepted)) ∙ ap encodeOf (h .session)
-
--- ---- numbers that fit, one of them changed
-
-below-set : (m : ℕ) (l : List ℕ) (i x : ℕ) → Below m l → x < m → Below m (set l i x)
-below-set m [] i x b h j = b j
-below-set m (v ∷ l) zero x b h zero = h
-below-set m (v ∷ l) zero x b h (suc j) = b (suc j)
-below-set m (v ∷ l) (suc i) x b h zero = b 0
-below-set m (v ∷ l) (suc i) x b h (suc j) = below-set m l i x (λ n. b (suc n)) h j
-
-numbers-set : {n k : ℕ} {vs : List ℕ} (i x : ℕ) → Numbers n k vs → x < 256 ^ k → Numbers n k (set vs i x)
-numbers-set {n} {k} {vs} i x f h = record { sized = length-set vs i x ∙ f .sized; below = below-set (256 ^ k) vs i x (f .below) h }
-
-below-shifted : (m : ℕ) (l : List ℕ) (x : ℕ) → Below m l → x < m → Below m (drop 1 l ++ (x ∷ []))
-below-shifted m [] x b h zero = h
-below-shifted m [] x b h (suc j) = b j
-below-shifted m (v ∷ l) x b h j = last l (λ n. b (suc n)) j
-  where
-    last : (us : List ℕ) → Below m us → Below m (us ++ (x ∷ []))
-    last [] d zero = h
-    last [] d (suc i) = d i
-    last (u ∷ us) d zero = d 0
-    last (u ∷ us) d (suc i) = last us (λ n. d (suc n)) i
-
-length-shifted : {A : Type 0} (x : A) (vs : List A) {n : ℕ} → length vs ≡ suc n → length (shifted x vs) ≡ suc n
-unfolding shifted
-length-shifted x [] e = absurd (omega arith)
-length-shifted x (v ∷ vs) e = rw (length-append vs (x ∷ [])) (omega arith)
-
-numbers-shifted : {n k : ℕ} {vs : List ℕ} (x : ℕ) → Numbers (suc n) k vs → x < 256 ^ k → Numbers (suc n) k (shifted x vs)
-unfolding shifted
-numbers-shifted {n} {k} {vs} x f h = record { sized = length-shifted x vs (f .sized); below = below-shifted (256 ^ k) vs x (f .below) h }
-
--- ---- the registers as a list of 16
-
-abbrev picked : ℕ → ℕ → List ℕ → List ℕ
-picked k zero l = []
-picked k (suc n) l = getD l k 0 ∷ picked (suc k) n l
-
-picked-all : (k n : ℕ) (l : List ℕ) → length l ≡ k + n → picked k n l ≡ drop k l
-picked-all k zero l e =
-    let all : k ≡ length l = omega arith in
-    rw all (sym (drop-length l))
-picked-all k (suc n) l e = rw (picked-all (suc k) n l (omega arith)) (sym (drop-cons l k 0 (omega arith)))
-
-listed : (l : List ℕ) → length l ≡ 16 → listOf (ofList l) ≡ l
-listed l e = picked-all 0 16 l e
 
 -- ---- a session with one part changed: the part, and that its numbers fit
 
@@ -127,12 +81,6 @@ module _ {s : Session} (f : Fitting s) where
 
   queue-fits : {q : Queue} → QueueFits q → Fitting (withQueue s q)
   queue-fits h = record { progress = f .progress; regs = f .regs; vmcs = f .vmcs; queue = h; capabilities = f .capabilities }
-
-put-fits : {v : Vmcs} → VmcsFits v → (g : Field) (x : ℕ) → x < 2 ^ widthBits g → VmcsFits (put v g x)
-put-fits f (Word16 k) x h = record { w16 = numbers-set k x (f .w16) h; w32 = f .w32; w64 = f .w64; natural = f .natural }
-put-fits f (Word64 k) x h = record { w16 = f .w16; w32 = f .w32; w64 = numbers-set k x (f .w64) h; natural = f .natural }
-put-fits f (Word32 k) x h = record { w16 = f .w16; w32 = numbers-set k x (f .w32) h; w64 = f .w64; natural = f .natural }
-put-fits f (Natural k) x h = record { w16 = f .w16; w32 = f .w32; w64 = f .w64; natural = numbers-set k x (f .natural) h }
 
 -- ---- where a field stands, and how many bytes it has
 

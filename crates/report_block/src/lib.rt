@@ -4,7 +4,7 @@ ghost use lib.ListN.{length, drop};
 ghost use Rattle.regs.specs.Registers.{ofList};
 ghost use Rattle.record.specs.Runs.{numbers};
 ghost use Rattle.report_block.specs.Layout.{LENGTH, REGS};
-ghost use Rattle.report_block.specs.Block.{cpuidOf, reportOf};
+ghost use Rattle.report_block.specs.Block.{cpuidOf, reportOf, blockAccepted};
 use record::words;
 use regs::GeneralRegisters;
 use vcpu_exit::CpuidWords;
@@ -61,6 +61,13 @@ impl Layout {
     pub const CPUID_ECX: usize = 236;
 
     pub const CPUID_EDX: usize = 240;
+}
+
+// Refusal 2 is its negation: a wrong length.
+pub fn accepts(b: &[u8]) -> bool
+    ensures { λ r. ⌜ r ≡ blockAccepted (now (b .entry)) ⌝ }
+{
+    b.len() == Layout::LENGTH
 }
 
 // ---- Reading a block of the right length.

@@ -219,7 +219,7 @@ pub fn is_held(vector: u8, rflags: u64, interruptibility: u32) -> bool
 }
 
 // What the next entry does with the front of the queue.
-pub fn injection_of(q: Queue, v: Vmcs) -> Injection
+fn injection_of(q: Queue, v: Vmcs) -> Injection
     ensures { λ r. ⌜ r ≡ injectionOf q v ⌝ }
 {
     if q.waiting == 0 {

@@ -51,7 +51,7 @@ pub fn set_control(pair: Pair, old: u32, set: u32, clear: u32) -> ControlAnswer
 }
 
 // Whether a word has all of allowed-0 and nothing outside allowed-1.
-pub fn word_permitted(pair: Pair, word: u32) -> bool
+fn word_permitted(pair: Pair, word: u32) -> bool
     ensures { λ r. ⌜ r ≡ wordPermitted pair word ⌝ }
 {
     (pair.allowed0 & word == pair.allowed0) & (word & pair.allowed1 == word)
@@ -111,7 +111,7 @@ pub struct EferUpdate {
 }
 
 // LME and LMA are both set.
-pub fn is_long_mode(efer: u64) -> bool
+fn is_long_mode(efer: u64) -> bool
     ensures { λ r. ⌜ r ≡ isLongMode efer ⌝ }
 {
     ((efer >> 8) % 2 == 1) & ((efer >> 10) % 2 == 1)

@@ -1,14 +1,15 @@
 // The exit report, from the record and a block of what the processor told.
 ghost use mathlib.Core.Path.{_≡_};
 ghost use Rattle.x86_vcpu.specs.ReportCall.{reportAccepts, ReportCalled};
-use report_block::Layout;
 use vcpu_session::Phase;
 
 // The bytes are a record and a block of a report.
 fn report_accepts(bytes: &[u8], block: &[u8]) -> bool
     ensures { λ r. ⌜ r ≡ reportAccepts (now (bytes .entry)) (now (block .entry)) ⌝ }
 {
-    record::accepts(bytes) & (block.len() == Layout::LENGTH)
+    let session = record::accepts(bytes);
+    let report = report_block::accepts(block);
+    session & report
 }
 
 // Takes what an exit reports and answers what the host is to do: refusals 2, 1, 14, 15, 16, 18, 20, 19, 21, 17, 8.

@@ -10,6 +10,7 @@ ghost use Rattle.vcpu_access.specs.Access.{writeField, setRegister, apicTaken, 
 ghost use Rattle.record.specs.Codec.{sessionOf, acceptedOf};
 ghost use Rattle.record_edits.specs.Holds.{Holds};
 ghost use Rattle.x86_vcpu.specs.Records.{Called, queueStep, EntryCalled, newCall};
+use crate::FRAME_SIZE;
 use record::Record;
 use vcpu_events::Event;
 use vcpu_events::Injection;
@@ -241,13 +242,13 @@ pub extern "C" fn vcpu_new(bytes: &mut [u8], a: &mut [u8], b: &mut [u8], msr: &m
     if bytes.len() != Record::LENGTH {
         return 2;
     }
-    if a.len() != 4096 {
+    if a.len() != FRAME_SIZE {
         return 2;
     }
-    if b.len() != 4096 {
+    if b.len() != FRAME_SIZE {
         return 2;
     }
-    if msr.len() != 4096 {
+    if msr.len() != FRAME_SIZE {
         return 2;
     }
     clear(bytes);

@@ -1,0 +1,71 @@
+-- Numbers that fit, one of them changed or all moved down by one. Assumes nothing.
+use mathlib.Core.Path.{_≡_, sym, _∙_, subst}
+use mathlib.Core.List.{List, [], _∷_, _++_}
+use Prim.Native.Nat.{ℕ, zero, suc, _+_, _^_, _<_}
+use native.Mathlib.Omega.{arith}
+use lib.ListN.{length, getD, drop, set, length-set, length-append}
+use lib.Seq.{drop-cons, drop-length}
+use Rattle.bits.specs.LittleEndian.{Below}
+use Rattle.regs.specs.Registers.{listOf, ofList, withReg}
+use Rattle.regs.specs.declared.GeneralRegisters.{GeneralRegisters}
+use Rattle.vmcs.specs.Field.{Field, Word16, Word64, Word32, Natural, widthBits, put}
+use Rattle.vmcs.specs.declared.Vmcs.{Vmcs}
+use Rattle.vcpu_events.specs.Queue.{shifted}
+use Rattle.record.specs.Runs.{Numbers}
+use Rattle.record.specs.Fitting.{VmcsFits}
+
+below-set : (m : ℕ) (l : List ℕ) (i x : ℕ) → Below m l → x < m → Below m (set l i x)
+below-set m [] i x b h j = b j
+below-set m (v ∷ l) zero x b h zero = h
+below-set m (v ∷ l) zero x b h (suc j) = b (suc j)
+below-set m (v ∷ l) (suc i) x b h zero = b 0
+below-set m (v ∷ l) (suc i) x b h (suc j) = below-set m l i x (λ n. b (suc n)) h j
+
+pub numbers-set : {n k : ℕ} {vs : List ℕ} (i x : ℕ) → Numbers n k vs → x < 256 ^ k → Numbers n k (set vs i x)
+numbers-set {n} {k} {vs} i x f h = record { sized = length-set vs i x ∙ f .sized; below = below-set (256 ^ k) vs i x (f .below) h }
+
+below-shifted : (m : ℕ) (l : List ℕ) (x : ℕ) → Below m l → x < m → Below m (drop 1 l ++ (x ∷ []))
+below-shifted m [] x b h zero = h
+below-shifted m [] x b h (suc j) = b j
+below-shifted m (v ∷ l) x b h j = last l (λ n. b (suc n)) j
+  where
+    last : (us : List ℕ) → Below m us → Below m (us ++ (x ∷ []))
+    last [] d zero = h
+    last [] d (suc i) = d i
+    last (u ∷ us) d zero = d 0
+    last (u ∷ us) d (suc i) = last us (λ n. d (suc n)) i
+
+pub length-shifted : {A : Type 0} (x : A) (vs : List A) {n : ℕ} → length vs ≡ suc n → length (shifted x vs) ≡ suc n
+unfolding shifted
+length-shifted x [] e = absurd (omega arith)
+length-shifted x (v ∷ vs) e = rw (length-append vs (x ∷ [])) (omega arith)
+
+pub numbers-shifted : {n k : ℕ} {vs : List ℕ} (x : ℕ) → Numbers (suc n) k vs → x < 256 ^ k → Numbers (suc n) k (shifted x vs)
+unfolding shifted
+numbers-shifted {n} {k} {vs} x f h = record { sized = length-shifted x vs (f .sized); below = below-shifted (256 ^ k) vs x (f .below) h }
+
+-- ---- the registers as a list of 16
+
+abbrev picked : ℕ → ℕ → List ℕ → List ℕ
+picked k zero l = []
+picked k (suc n) l = getD l k 0 ∷ picked (suc k) n l
+
+picked-all : (k n : ℕ) (l : List ℕ) → length l ≡ k + n → picked k n l ≡ drop k l
+picked-all k zero l e =
+    let all : k ≡ length l = omega arith in
+    rw all (sym (drop-length l))
+picked-all k (suc n) l e = rw (picked-all (suc k) n l (omega arith)) (sym (drop-cons l k 0 (omega arith)))
+
+pub listed : (l : List ℕ) → length l ≡ 16 → listOf (ofList l) ≡ l
+listed l e = picked-all 0 16 l e
+
+pub reg-fits : (g : GeneralRegisters) (i x : ℕ) → Numbers 16 8 (listOf g) → x < 2 ^ 64 → Numbers 16 8 (listOf (withReg g i x))
+reg-fits g i x f h = subst (Numbers 16 8) (sym (listed (set (listOf g) i x) (length-set (listOf g) i x ∙ f .sized))) (numbers-set i x f h)
+
+-- ---- fields
+
+pub put-fits : {v : Vmcs} → VmcsFits v → (g : Field) (x : ℕ) → x < 2 ^ widthBits g → VmcsFits (put v g x)
+put-fits f (Word16 k) x h = record { w16 = numbers-set k x (f .w16) h; w32 = f .w32; w64 = f .w64; natural = f .natural }
+put-fits f (Word64 k) x h = record { w16 = f .w16; w32 = f .w32; w64 = numbers-set k x (f .w64) h; natural = f .natural }
+put-fits f (Word32 k) x h = record { w16 = f .w16; w32 = numbers-set k x (f .w32) h; w64 = f .w64; natural = f .natural }
+put-fits f (Natural k) x h = record { w16 = f .w16; w32 = f .w32; w64 = f .w64; natural = numbers-set k x (f .natural) h }

@@ -125,6 +125,10 @@ MUTATIONS = [
         ("next.held = p.held + 1;", "next.held = p.held;"),
     ),
     *in_file(
+        "vcpu_session/src/lib.rt",
+        ("VMX_PREEMPTION_TIMER_SET_VALUE: u32 = 1_000_000;", "VMX_PREEMPTION_TIMER_SET_VALUE: u32 = 100_000;"),
+    ),
+    *in_file(
         "accessors/src/lib.rt",
         ("if 15 < index {", "if 16 < index {"),
         ("if index == 4 {", "if index == 5 {"),
@@ -165,7 +169,6 @@ MUTATIONS = [
         ("    record_edits::put_natural(b, VmcsGuestNW::CR3, r.cr3);\n", ""),
         ("    record_edits::put_w32(b, VmcsReadOnly32::VMEXIT_INTERRUPTION_ERR_CODE, r.code);\n", ""),
         ("entry & !0x8000_0000,", "entry,"),
-        ("VMX_PREEMPTION_TIMER_VALUE, 1_000_000);", "VMX_PREEMPTION_TIMER_VALUE, 100_000);"),
         ("CR4_READ_SHADOW, words.shadow);", "CR4_READ_SHADOW, words.value);"),
         ("    record_edits::put_w64(b, VmcsGuest64::IA32_EFER, update.efer);\n", ""),
         ("record_edits::put_phase(b, Phase::ENDED);", "record_edits::put_phase(b, Phase::READY);"),
@@ -270,7 +273,6 @@ MUTATIONS = [
         ("    v.natural[VmcsGuestNW::CR3] = r.cr3;\n", ""),
         ("    v.w32[VmcsReadOnly32::VMEXIT_INTERRUPTION_ERR_CODE] = r.code;\n", ""),
         ("= entry & !0x8000_0000;", "= entry;"),
-        ("VMX_PREEMPTION_TIMER_VALUE] = 1_000_000;", "VMX_PREEMPTION_TIMER_VALUE] = 100_000;"),
         ("next.natural[VmcsControlNW::CR4_READ_SHADOW] = words.shadow;", "next.natural[VmcsControlNW::CR4_READ_SHADOW] = words.value;"),
         ("    next.w64[VmcsGuest64::IA32_EFER] = update.efer;\n", ""),
         ("return vcpu_events::set_interrupt_window(v, false);", "return vcpu_events::set_interrupt_window(v, true);"),

@@ -16,7 +16,7 @@ use Rattle.regs.specs.Registers.{listOf}
 use Rattle.regs.specs.declared.GeneralRegisters.{GeneralRegisters}
 use Rattle.definitions.specs.VmxExitReason as VmxExitReason
 use Rattle.vmcs.specs.Control.{pairAt}
-use Rattle.vmcs.specs.Cr.{cr0Free, cr0Off, cr0Words, cr4Words}
+use Rattle.vmcs.specs.Cr.{cr0Free, cr0Off, cr0Words, cr4Words, cr0Writes, cr4Writes}
 use Rattle.vmcs.specs.Efer.{isLongMode, lacksIa32e, updateEfer, eferNamed}
 use Rattle.vmcs.specs.Field.{valueOf}
 use Rattle.vmcs.specs.Flags.Cr0Flags as Cr0Flags
@@ -30,6 +30,7 @@ use Rattle.vmcs.specs.declared.controls.Pair.{Pair}
 use Rattle.vcpu_session.specs.declared.Capabilities.{Capabilities}
 use Rattle.vcpu_session.specs.declared.Fixed.{Fixed}
 use Rattle.vcpu_session.specs.declared.Session.{Session}
+use Rattle.vcpu_session.specs.Session.{VMX_PREEMPTION_TIMER_SET_VALUE}
 use Rattle.vcpu_exit.specs.Reading.{reasonOf, failed, isApic, registerOf, movedValue, isMoveTo, advanceOf, pastEnd}
 use Rattle.vcpu_exit.specs.Refusal.{entryPair, reportRefusal}
 use Rattle.vcpu_exit.specs.declared.CpuidWords.{CpuidWords}
@@ -37,7 +38,7 @@ use Rattle.vcpu_exit.specs.declared.Report.{Report}
 use Rattle.vcpu_exit.proofs.Passes.{passes}
 use Rattle.vcpu_answers.specs.Cpuid.{vendorInfo, extendedFeatures, frequencyInfo, leafWords, withWords, handleCpuid}
 use Rattle.vcpu_events.specs.Entry.{windowWord, windowSet}
-use Rattle.vcpu_handlers.specs.Handlers.{reportWrites, stored, failureWrites, failureStored, timerSet, cr0Writes, cr4Writes, cr0Set, cr4Set, eferWrites, eferUpdated, crHandled, handledAs, ripAdvanced, vmcsAfter}
+use Rattle.vcpu_handlers.specs.Handlers.{reportWrites, stored, failureWrites, failureStored, timerSet, cr0Set, cr4Set, eferWrites, eferUpdated, crHandled, handledAs, ripAdvanced, vmcsAfter}
 use Rattle.report_block.specs.Layout as Layout
 use Rattle.report_block.specs.Block.{cpuidOf, reportOf}
 use Rattle.vcpu_report.specs.ExitReport.{registersAfter, phaseAfter, failedEntry, afterExit, accepted, exitReport}
@@ -177,7 +178,7 @@ window-fits v m =
 
 timer-fits : (v : Vmcs) → VmcsFits v → VmcsFits (timerSet v)
 unfolding timerSet
-timer-fits v m = applied-fits (VmcsGuest32.VMX_PREEMPTION_TIMER_VALUE ≔ 1000000 ∷ []) v m (lit< tt, tt)
+timer-fits v m = applied-fits (VmcsGuest32.VMX_PREEMPTION_TIMER_VALUE ≔ VMX_PREEMPTION_TIMER_SET_VALUE ∷ []) v m (lit< tt, tt)
 
 moved-fits : (r : Report) → FitsReport r → movedValue r < 2 ^ 64
 unfolding movedValue registerOf

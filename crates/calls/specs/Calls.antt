@@ -196,6 +196,7 @@ writesField x (apicValue value) = false
 writesField x (fieldWrite encoding value) = eqb encoding x
 writesField x (registerWrite index value) = false
 
+-- such a write was accepted
 abbrev pub written : ℕ → List Logged → Bool
 written x [] = false
 written x (l ∷ ls) = cond (isRefused (l .refusal)) false (writesField x (l .call)) || written x ls

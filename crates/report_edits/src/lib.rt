@@ -137,7 +137,11 @@ fn handle_vmx_preemption_timer(b: &mut [u8])
     requires { ⌜ acceptedOf (now b) ≡ true ⌝ }
     ensures { λ _. ⌜ Holds (now (b .exit)) (withVmcs (sessionOf (now (b .entry))) (timerSet (sessionOf (now (b .entry)) .vmcs))) ⌝ }
 {
-    record_edits::put_w32(b, VmcsGuest32::VMX_PREEMPTION_TIMER_VALUE, 1_000_000);
+    record_edits::put_w32(
+        b,
+        VmcsGuest32::VMX_PREEMPTION_TIMER_VALUE,
+        vcpu_session::VMX_PREEMPTION_TIMER_SET_VALUE,
+    );
 }
 
 // `set_cr` of CR0.

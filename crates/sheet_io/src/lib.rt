@@ -2,7 +2,7 @@
 use libc::STDIN_FILENO;
 use libc::STDOUT_FILENO;
 
-// Room for one byte more than the longest text, so that a longer one shows.
+// Reads one byte more than the longest text where there is one, so that a longer input is noticed, and prints the sheet.
 pub fn run() {
     let mut input = [0u8; sheet::LONGEST + 1];
     let n = io::read_full(STDIN_FILENO, &mut input);

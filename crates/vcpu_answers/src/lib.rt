@@ -58,6 +58,7 @@ pub enum AxVCpuExitReason {
         msr: u32,
         value: u64,
     },
+    // Every exit that no other answer is for.
     Halt,
     // The session is ended. The reason is 0, as in the Rust, which has none to give.
     FailEntry {

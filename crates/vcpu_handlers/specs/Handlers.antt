@@ -6,7 +6,7 @@ use lib.Bits.{bitAnd}
 use lib.Dec.{eqb}
 use Rattle.bits.specs.Words.{bit, bitNot}
 use Rattle.definitions.specs.VmxExitReason as VmxExitReason
-use Rattle.vmcs.specs.Cr.{cr0Words, cr4Words}
+use Rattle.vmcs.specs.Cr.{cr0Words, cr4Words, cr0Writes, cr4Writes}
 use Rattle.vmcs.specs.Efer.{updateEfer}
 use Rattle.vmcs.specs.Field.{valueOf}
 use Rattle.vmcs.specs.Flags.Cr0Flags as Cr0Flags
@@ -22,6 +22,7 @@ use Rattle.vmcs.specs.declared.Vmcs.{Vmcs}
 use Rattle.vmcs.specs.declared.controls.CrWords.{CrWords}
 use Rattle.vmcs.specs.declared.controls.EferUpdate.{EferUpdate}
 use Rattle.vmcs.specs.declared.controls.Pair.{Pair}
+use Rattle.vcpu_session.specs.Session.{VMX_PREEMPTION_TIMER_SET_VALUE}
 use Rattle.vcpu_session.specs.declared.Capabilities.{Capabilities}
 use Rattle.vcpu_session.specs.declared.Fixed.{Fixed}
 use Rattle.vcpu_events.specs.Entry.{windowSet}
@@ -66,18 +67,9 @@ failureStored v r = applied (failureWrites r) v
 -- ---- reason 52: the preemption timer starts anew (SDM 3C, 26.5.1)
 
 unfoldable pub timerSet : Vmcs → Vmcs
-timerSet v = applied (VmcsGuest32.VMX_PREEMPTION_TIMER_VALUE ≔ 1000000 ∷ []) v
+timerSet v = applied (VmcsGuest32.VMX_PREEMPTION_TIMER_VALUE ≔ VMX_PREEMPTION_TIMER_SET_VALUE ∷ []) v
 
 -- ---- reason 28: a move to CR0 or CR4 (SDM 3C, table 28-3)
-
--- value, read shadow and guest/host mask
-abbrev pub cr0Writes : CrWords → List Write
-cr0Writes w =
-    VmcsGuestNW.CR0 ≔ w .value ∷ VmcsControlNW.CR0_READ_SHADOW ≔ w .shadow ∷ VmcsControlNW.CR0_GUEST_HOST_MASK ≔ w .mask ∷ []
-
-abbrev pub cr4Writes : CrWords → List Write
-cr4Writes w =
-    VmcsGuestNW.CR4 ≔ w .value ∷ VmcsControlNW.CR4_READ_SHADOW ≔ w .shadow ∷ VmcsControlNW.CR4_GUEST_HOST_MASK ≔ w .mask ∷ []
 
 unfoldable pub cr0Set : Vmcs → Fixed → ℕ → Vmcs
 cr0Set v fixed value = applied (cr0Writes (cr0Words (fixed .fixed0) (fixed .fixed1) value)) v

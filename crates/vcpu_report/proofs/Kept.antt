@@ -10,7 +10,7 @@ use borrow.Author.Tests.{eqb-true, eqb-false, eq-eqb}
 use Rattle.bits.specs.Words.{bit, bitNot, Within}
 use Rattle.bits.proofs.WordLaws.{words, within-pow}
 use Rattle.definitions.specs.VmxExitReason as VmxExitReason
-use Rattle.vmcs.specs.Cr.{cr0Free, cr0Off, cr0Words, cr4Words}
+use Rattle.vmcs.specs.Cr.{cr0Free, cr0Off, cr0Words, cr4Words, cr0Writes, cr4Writes}
 use Rattle.vmcs.specs.Efer.{isLongMode, lacksIa32e, longModeEfer, longModeEntry, eferUpdate, updateEfer}
 use Rattle.vmcs.specs.Field.{valueOf}
 use Rattle.vmcs.specs.Flags.Cr0Flags as Cr0Flags
@@ -24,12 +24,13 @@ use Rattle.vmcs.specs.declared.controls.EferUpdate.{EferUpdate}
 use Rattle.vmcs.specs.declared.controls.Pair.{Pair}
 use Rattle.vmcs.proofs.ControlLaws.{control-permitted}
 use Rattle.vcpu_session.specs.declared.Capabilities.{Capabilities}
+use Rattle.vcpu_session.specs.Session.{VMX_PREEMPTION_TIMER_SET_VALUE}
 use Rattle.vcpu_exit.specs.Reading.{reasonOf, movedValue, isMoveTo, turnsPagingOn, advanceOf}
 use Rattle.vcpu_exit.specs.Refusal.{ownedBitsDiffer, otherAccess, eferRefusal, entryPair}
 use Rattle.vcpu_exit.specs.declared.Report.{Report}
 use Rattle.vcpu_exit.proofs.Conds.{cond-all}
 use Rattle.vcpu_events.specs.Entry.{windowWord, windowSet}
-use Rattle.vcpu_handlers.specs.Handlers.{reportWrites, stored, timerSet, cr0Writes, cr4Writes, cr0Set, cr4Set, eferWrites, eferUpdated, handled, ripAdvanced, vmcsAfter, failureWrites, failureStored}
+use Rattle.vcpu_handlers.specs.Handlers.{reportWrites, stored, timerSet, cr0Set, cr4Set, eferWrites, eferUpdated, handled, ripAdvanced, vmcsAfter, failureWrites, failureStored}
 use Rattle.vcpu_report.specs.Invariant.{Consistent, PermittedBy, SoundFields, Fits}
 use Rattle.vcpu_report.proofs.Steps.{by-move, by-reason, kept-by}
 use Rattle.vcpu_report.proofs.Words.{aside-clear, agreed, moved-to}
@@ -105,7 +106,7 @@ module _ (c : Capabilities) (ok : Consistent c) where
 
   kept-timer : (u : Vmcs) → SoundFields c u → SoundFields c (timerSet u)
   unfolding timerSet
-  kept-timer u k = kept-by c (VmcsGuest32.VMX_PREEMPTION_TIMER_VALUE ≔ 1000000 ∷ []) u (k .sized) (k .words)
+  kept-timer u k = kept-by c (VmcsGuest32.VMX_PREEMPTION_TIMER_VALUE ≔ VMX_PREEMPTION_TIMER_SET_VALUE ∷ []) u (k .sized) (k .words)
 
   kept-efer : (u : Vmcs) (efer : ℕ) → (isLongMode efer ≡ false → lacksIa32e (entryPair c .allowed1) ≡ false) → SoundFields c u
       → SoundFields c (eferUpdated u (entryPair c) efer)

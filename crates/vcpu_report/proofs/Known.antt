@@ -8,7 +8,7 @@ use lib.Bits.{bitAnd}
 use lib.ListN.{drop}
 use Rattle.bits.specs.Words.{bit, bitNot}
 use Rattle.bits.proofs.WordLaws as W
-use Rattle.vmcs.specs.Cr.{cr0Words, cr4Words}
+use Rattle.vmcs.specs.Cr.{cr0Words, cr4Words, cr0Writes, cr4Writes}
 use Rattle.vmcs.specs.Efer.{updateEfer}
 use Rattle.vmcs.specs.Field.{Field, placeOf, sizeOf, valueOf}
 use Rattle.vmcs.specs.Names.VmcsControl32 as VmcsControl32
@@ -20,11 +20,12 @@ use Rattle.vmcs.specs.Writes.{Write, _≔_, applied, sameField, lastOf, Sized}
 use Rattle.vmcs.specs.declared.Vmcs.{Vmcs}
 use Rattle.vmcs.proofs.WriteLaws.{sized-applied, read-applied}
 use Rattle.vcpu_session.specs.declared.Capabilities.{Capabilities}
+use Rattle.vcpu_session.specs.Session.{VMX_PREEMPTION_TIMER_SET_VALUE}
 use Rattle.vcpu_exit.specs.Reading.{movedValue, advanceOf}
 use Rattle.vcpu_exit.specs.Refusal.{entryPair}
 use Rattle.vcpu_exit.specs.declared.Report.{Report}
 use Rattle.vcpu_events.specs.Entry.{windowWord, windowSet}
-use Rattle.vcpu_handlers.specs.Handlers.{reportWrites, stored, timerSet, cr0Writes, cr4Writes, cr0Set, cr4Set, eferWrites, eferUpdated, handled, ripAdvanced, vmcsAfter}
+use Rattle.vcpu_handlers.specs.Handlers.{reportWrites, stored, timerSet, cr0Set, cr4Set, eferWrites, eferUpdated, handled, ripAdvanced, vmcsAfter}
 use Rattle.vcpu_report.specs.Laws.{oneOf, handlerFields}
 use Rattle.vcpu_report.proofs.Steps.{by-move, by-reason, fieldsOf, split, kept-field}
 
@@ -95,7 +96,7 @@ module _ (v : Vmcs) (r : Report) where
 
   known-timer : (u : Vmcs) → Known v r u → Known v r (timerSet u)
   unfolding timerSet
-  known-timer u k = known-by (VmcsGuest32.VMX_PREEMPTION_TIMER_VALUE ≔ 1000000 ∷ []) u (λ f a. rw (a .timer)) k
+  known-timer u k = known-by (VmcsGuest32.VMX_PREEMPTION_TIMER_VALUE ≔ VMX_PREEMPTION_TIMER_SET_VALUE ∷ []) u (λ f a. rw (a .timer)) k
 
   known-cr0 : (c : Capabilities) (val : ℕ) (u : Vmcs) → Known v r u → Known v r (cr0Set u (c .cr0) val)
   unfolding cr0Set

@@ -15,6 +15,10 @@ use Rattle.vcpu_session.specs.declared.Fixed.{Fixed}
 use Rattle.vcpu_session.specs.declared.Capabilities.{Capabilities}
 use Rattle.vcpu_session.specs.declared.Session.{Session}
 
+-- what the preemption timer is set to, at setup and where it has run out (document 01, "Setup"; the Rust's constant)
+abbrev pub VMX_PREEMPTION_TIMER_SET_VALUE : ℕ
+VMX_PREEMPTION_TIMER_SET_VALUE = 1000000
+
 abbrev pub noFixed : Fixed
 noFixed = record { fixed0 = 0; fixed1 = 0 }
 

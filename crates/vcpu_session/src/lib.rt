@@ -7,6 +7,9 @@ use regs::GeneralRegisters;
 use vmcs::Vmcs;
 use vmcs::controls::Pair;
 
+// What the preemption timer is set to, at setup and where it has run out.
+pub const VMX_PREEMPTION_TIMER_SET_VALUE: u32 = 1_000_000;
+
 // The phases of a session, by document 01's names and numbers.
 pub struct Phase {}
 

@@ -2,7 +2,7 @@
 use Prim.Native.Nat.{ℕ}
 use mathlib.Core.List.{List, [], _∷_, _++_}
 use lib.ListN.{getD}
-use Rattle.vmcs.specs.Cr.{cr0Words, cr4Words, firstCr0}
+use Rattle.vmcs.specs.Cr.{cr0Words, cr4Words, firstCr0, cr0Writes, cr4Writes}
 use Rattle.vmcs.specs.declared.controls.CrWords.{CrWords}
 use Rattle.vmcs.specs.Field.{Field}
 use Rattle.vmcs.specs.declared.Vmcs.{Vmcs}
@@ -18,6 +18,7 @@ use Rattle.vmcs.specs.Names.VmcsHost16 as VmcsHost16
 use Rattle.vmcs.specs.Names.VmcsHost32 as VmcsHost32
 use Rattle.vmcs.specs.Names.VmcsHost64 as VmcsHost64
 use Rattle.vmcs.specs.Names.VmcsHostNW as VmcsHostNW
+use Rattle.vcpu_session.specs.Session.{VMX_PREEMPTION_TIMER_SET_VALUE}
 use Rattle.structs.specs.EPTPointer.{eptPointer}
 use Rattle.vcpu_setup.specs.Capability.{pairsOf, oldsOf}
 use Rattle.vcpu_setup.specs.Words.{setupWords}
@@ -60,14 +61,7 @@ hostSet v h = applied (hostWrites h) v
 
 -- set_cr, for CR0 and CR4
 abbrev pub crWrites : CrWords → CrWords → List Write
-crWrites cr0 cr4 =
-    VmcsGuestNW.CR0 ≔ cr0 .value
-    ∷ VmcsControlNW.CR0_READ_SHADOW ≔ cr0 .shadow
-    ∷ VmcsControlNW.CR0_GUEST_HOST_MASK ≔ cr0 .mask
-    ∷ VmcsGuestNW.CR4 ≔ cr4 .value
-    ∷ VmcsControlNW.CR4_READ_SHADOW ≔ cr4 .shadow
-    ∷ VmcsControlNW.CR4_GUEST_HOST_MASK ≔ cr4 .mask
-    ∷ []
+crWrites cr0 cr4 = cr0Writes cr0 ++ cr4Writes cr4
 
 abbrev pub crSet : Vmcs → CrWords → CrWords → Vmcs
 crSet v cr0 cr4 = applied (crWrites cr0 cr4) v
@@ -109,7 +103,7 @@ guestWrites entry pat =
     ∷ VmcsGuest32.IA32_SYSENTER_CS ≔ 0
     ∷ VmcsGuest32.INTERRUPTIBILITY_STATE ≔ 0
     ∷ VmcsGuest32.ACTIVITY_STATE ≔ 0
-    ∷ VmcsGuest32.VMX_PREEMPTION_TIMER_VALUE ≔ 1000000
+    ∷ VmcsGuest32.VMX_PREEMPTION_TIMER_VALUE ≔ VMX_PREEMPTION_TIMER_SET_VALUE
     ∷ VmcsGuest64.LINK_PTR ≔ 0xFFFFFFFFFFFFFFFF
     ∷ VmcsGuest64.IA32_DEBUGCTL ≔ 0
     ∷ VmcsGuest64.IA32_PAT ≔ pat

@@ -391,7 +391,7 @@ fn set_guest(v: Vmcs, entry: u64, pat: u64) -> Vmcs
     v.w32[VmcsGuest32::IA32_SYSENTER_CS] = 0;
     v.w32[VmcsGuest32::INTERRUPTIBILITY_STATE] = 0;
     v.w32[VmcsGuest32::ACTIVITY_STATE] = 0;
-    v.w32[VmcsGuest32::VMX_PREEMPTION_TIMER_VALUE] = 1_000_000;
+    v.w32[VmcsGuest32::VMX_PREEMPTION_TIMER_VALUE] = vcpu_session::VMX_PREEMPTION_TIMER_SET_VALUE;
     v.w64[VmcsGuest64::LINK_PTR] = 0xFFFF_FFFF_FFFF_FFFF;
     v.w64[VmcsGuest64::IA32_DEBUGCTL] = 0;
     v.w64[VmcsGuest64::IA32_PAT] = pat;

@@ -1,10 +1,13 @@
 -- The guest's CR0 and CR4 under the fixed bits of the processor (`set_cr`; SDM 3D, A.7 and A.8). Assumes nothing.
 use Prim.Native.Nat.{ℕ, _^_}
-use mathlib.Core.List.{[], _∷_}
+use mathlib.Core.List.{List, [], _∷_}
 use lib.Bits.{bitAnd, bitOr}
 use Rattle.bits.specs.Words.{bitNot, maskOf}
 use Rattle.vmcs.specs.Flags.Cr0Flags as Cr0Flags
 use Rattle.vmcs.specs.Flags.Cr4Flags as Cr4Flags
+use Rattle.vmcs.specs.Names.VmcsControlNW as VmcsControlNW
+use Rattle.vmcs.specs.Names.VmcsGuestNW as VmcsGuestNW
+use Rattle.vmcs.specs.Writes.{Write, _≔_}
 use Rattle.vmcs.specs.declared.controls.CrWords.{CrWords}
 
 -- the value under the bits that may be 1 (must0) and those that must be 1 (must1), the read shadow, and the guest/host mask, at 64 bits
@@ -16,7 +19,7 @@ crWords must0 must1 val =
 abbrev pub cr0Free : ℕ
 cr0Free = maskOf (Cr0Flags.PAGING ∷ Cr0Flags.PROTECTED_MODE_ENABLE ∷ [])
 
--- what is kept off in CR0, since an exit does not update it
+-- what is kept off in CR0: an exit leaves NW and CD as the guest had them, and the host would run with its caches off
 abbrev pub cr0Off : ℕ
 cr0Off = maskOf (Cr0Flags.NOT_WRITE_THROUGH ∷ Cr0Flags.CACHE_DISABLE ∷ [])
 
@@ -30,3 +33,13 @@ cr4Words fixed0 fixed1 val = crWords fixed1 fixed0 (bitOr val (2 ^ Cr4Flags.VIRT
 -- the first CR0 of a guest: NW, CD and ET
 abbrev pub firstCr0 : ℕ
 firstCr0 = maskOf (Cr0Flags.NOT_WRITE_THROUGH ∷ Cr0Flags.CACHE_DISABLE ∷ Cr0Flags.EXTENSION_TYPE ∷ [])
+
+-- ---- what a move to CR0 or CR4 leaves (`set_cr`): value, read shadow and guest/host mask
+
+abbrev pub cr0Writes : CrWords → List Write
+cr0Writes w =
+    VmcsGuestNW.CR0 ≔ w .value ∷ VmcsControlNW.CR0_READ_SHADOW ≔ w .shadow ∷ VmcsControlNW.CR0_GUEST_HOST_MASK ≔ w .mask ∷ []
+
+abbrev pub cr4Writes : CrWords → List Write
+cr4Writes w =
+    VmcsGuestNW.CR4 ≔ w .value ∷ VmcsControlNW.CR4_READ_SHADOW ≔ w .shadow ∷ VmcsControlNW.CR4_GUEST_HOST_MASK ≔ w .mask ∷ []

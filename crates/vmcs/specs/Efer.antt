@@ -1,4 +1,4 @@
--- EFER and the entry controls where the guest turns paging on (`update_efer`). Assumes nothing.
+-- EFER and the entry controls where the guest turns paging on (`update_efer`; document 01, "Where the Rust is followed against the manual"). Assumes nothing.
 use Prim.Native.Nat.{ℕ, _/_, _%_, _^_}
 use mathlib.Core.Bool.{Bool, cond, _&&_}
 use mathlib.Core.List.{[], _∷_}

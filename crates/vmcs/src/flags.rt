@@ -1,4 +1,4 @@
-// The bits of control registers and control words that the port names, as in the Rust and the manual. A flag is a word with its bit alone.
+// The bits of control registers and control words that the port names, as in the Rust and the manual. A flag is a word with its bit alone. Where code tests one bit it shifts by the bit's place, which is the number that the definitions name (specs/Flags).
 pub struct Cr0Flags {}
 
 impl Cr0Flags {

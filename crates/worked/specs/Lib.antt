@@ -1,1 +1,2 @@
+-- The cases that document 01 works by hand.
 pub mod Worked

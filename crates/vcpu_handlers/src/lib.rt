@@ -50,7 +50,8 @@ fn handle_vmx_preemption_timer(v: Vmcs) -> Vmcs
     ensures { λ t. ⌜ t ≡ timerSet v ⌝ }
 {
     let mut next = v;
-    next.w32[VmcsGuest32::VMX_PREEMPTION_TIMER_VALUE] = vcpu_session::VMX_PREEMPTION_TIMER_SET_VALUE;
+    next.w32[VmcsGuest32::VMX_PREEMPTION_TIMER_VALUE] =
+        vcpu_session::VMX_PREEMPTION_TIMER_SET_VALUE;
     next
 }
 

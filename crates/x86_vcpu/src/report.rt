@@ -18,6 +18,7 @@ pub extern "C" fn vcpu_exit_report(bytes: &mut [u8], block: &[u8], answer: &mut 
     ensures { λ r. ⌜ ReportCalled (now (bytes .entry)) (now (block .entry)) (now (answer .entry)) r (now (bytes .exit)) (now (answer .exit)) ⌝ }
 {
     if report_accepts(bytes, block) {
+        // `report_refusal` finds 1 too; here the block is not decoded for it.
         if record::phase_at(bytes) != Phase::RUNNING {
             return 1;
         }

@@ -76,7 +76,7 @@ extern "C" {
 /* ---- Sizes ---- */
 
 /* The length in bytes of a session's record. */
-#define VCPU_RECORD_LENGTH 1525
+#define VCPU_RECORD_LENGTH 1469
 
 /* The length in bytes of an intercept frame: I/O bitmap A, I/O bitmap B, MSR bitmaps (SDM 3C, 25.6.4 and 25.6.9). */
 #define VCPU_FRAME_LENGTH 4096
@@ -98,15 +98,15 @@ extern "C" {
 #define VCPU_OFFSET_W32 172
 #define VCPU_OFFSET_W64 372
 #define VCPU_OFFSET_NATURAL 700
-/* The queue, its front first: how many events wait (1), vectors (64), yes/no whether each has an error code (64), codes (64 of 4). */
+/* The queue, its front first: how many events wait (1), vectors (64), whether each has an error code (8: bit i for place i), codes (64 of 4). */
 #define VCPU_OFFSET_WAITING 1068
 #define VCPU_OFFSET_VECTORS 1069
 #define VCPU_OFFSET_CODED 1133
-#define VCPU_OFFSET_CODES 1197
+#define VCPU_OFFSET_CODES 1141
 /* Kept from setup: five pairs allowed-0 (4), allowed-1 (4), for pin, primary, secondary, exit, entry; CR0 and CR4 fixed-0 (8), fixed-1 (8). */
-#define VCPU_OFFSET_PAIRS 1453
-#define VCPU_OFFSET_CR0 1493
-#define VCPU_OFFSET_CR4 1509
+#define VCPU_OFFSET_PAIRS 1397
+#define VCPU_OFFSET_CR0 1437
+#define VCPU_OFFSET_CR4 1453
 
 /* ---- Phases ---- */
 

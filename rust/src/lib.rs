@@ -13,7 +13,7 @@ pub mod ffi;
 pub use blocks::{HostWords, Report, Setup};
 use core::num::NonZeroU32;
 
-pub const RECORD_LENGTH: usize = 1525;
+pub const RECORD_LENGTH: usize = 1469;
 pub const FRAME_LENGTH: usize = 4096;
 
 /// The number of a refusal (include/x86_vcpu.h, VCPU_REFUSED_..).

@@ -73,12 +73,5 @@ static void set_field(uint8_t *r, uint64_t encoding, uint64_t x)
 
 static int lawful(const uint8_t *r, size_t length)
 {
-    unsigned i;
-
-    if (length != N || r[0] > 4 || r[1] > 1 || get(r, 6, 4) > get(r, 2, 4) || r[1068] > 64)
-        return 0;
-    for (i = 0; i < 64; i++)
-        if (r[1133 + i] > 1)
-            return 0;
-    return 1;
+    return length == N && r[0] <= 4 && r[1] <= 1 && get(r, 6, 4) <= get(r, 2, 4) && r[1068] <= 64;
 }

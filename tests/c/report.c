@@ -303,8 +303,6 @@ static void any_record(uint8_t *r)
     r[1] = (uint8_t)(below(64) ? below(2) : 2);
     put(r, VCPU_OFFSET_HELD, 4, get(r, VCPU_OFFSET_ENTRIES, 4) / 2);
     r[VCPU_OFFSET_WAITING] = (uint8_t)below(65);
-    for (i = 0; i < 64; i++)
-        r[VCPU_OFFSET_CODED + i] = (uint8_t)below(2);
 }
 
 static uint64_t few(const uint64_t *list, unsigned n)

@@ -17,8 +17,8 @@ static uint32_t model_push(uint8_t *r, uint8_t vector, uint8_t coded, uint32_t c
     if (at >= 64)
         return 13;
     r[1069 + at] = vector;
-    r[1133 + at] = coded;
-    put(r, 1197 + 4 * at, 4, coded ? code : 0);
+    r[1133 + at / 8] = (uint8_t)((r[1133 + at / 8] & ~(1u << at % 8)) | (unsigned)coded << at % 8);
+    put(r, 1141 + 4 * at, 4, coded ? code : 0);
     r[1068]++;
     return 0;
 }
@@ -51,7 +51,7 @@ static uint32_t model_entry(uint8_t *r, uint64_t stack, uint8_t *resumed, uint8_
     type = v == 1 ? 5 : v == 2 ? 2 : v == 3 || v == 4 ? 6 : v <= 20 ? 3 : v <= 31 ? 7 : 0;
     if (memchr(codes, (int)v, sizeof codes)) {
         code = 1;
-        set_field(r, 0x4018, r[1133] ? get(r, 1197, 4) : field(r, 0x4406));
+        set_field(r, 0x4018, r[1133] & 1 ? get(r, 1141, 4) : field(r, 0x4406));
     }
     if (type == 4 || type == 5 || type == 6)
         set_field(r, 0x401A, field(r, 0x440C));
@@ -59,10 +59,9 @@ static uint32_t model_entry(uint8_t *r, uint64_t stack, uint8_t *resumed, uint8_
     r[1068]--;
     memmove(r + 1069, r + 1070, 63);
     r[1069 + 63] = 0;
-    memmove(r + 1133, r + 1134, 63);
-    r[1133 + 63] = 0;
-    memmove(r + 1197, r + 1201, 252);
-    put(r, 1197 + 252, 4, 0);
+    put(r, 1133, 8, get(r, 1133, 8) >> 1);
+    memmove(r + 1141, r + 1145, 252);
+    put(r, 1141 + 252, 4, 0);
     return 0;
 }
 
@@ -100,11 +99,9 @@ static void random_lawful(uint8_t *r)
     put(r, 2, 4, entries);
     put(r, 6, 4, entries / (1 + below(5)));
     r[1068] = (uint8_t)(below(4) ? below(4) : 60 + below(5));
-    for (i = 0; i < 64; i++) {
-        r[1133 + i] = (uint8_t)below(2);
+    for (i = 0; i < 64; i++)
         if (below(2))
             r[1069 + i] = (uint8_t)below(40);
-    }
     if (below(2))
         set_field(r, 0x4824, 0);
 }
@@ -301,8 +298,8 @@ static void offsets(void)
     CHECK(VCPU_OFFSET_PHASE == 0 && VCPU_OFFSET_LAUNCHED == 1 && VCPU_OFFSET_ENTRIES == 2 && VCPU_OFFSET_HELD == 6);
     CHECK(VCPU_OFFSET_REGS == 10 && VCPU_OFFSET_W16 == fields[0].offset && VCPU_OFFSET_W32 == fields[17].offset);
     CHECK(VCPU_OFFSET_W64 == fields[67].offset && VCPU_OFFSET_NATURAL == fields[108].offset);
-    CHECK(VCPU_OFFSET_WAITING == 1068 && VCPU_OFFSET_VECTORS == 1069 && VCPU_OFFSET_CODED == 1133 && VCPU_OFFSET_CODES == 1197);
-    CHECK(VCPU_OFFSET_PAIRS == 1197 + 256 && VCPU_OFFSET_CR0 == VCPU_OFFSET_PAIRS + 40 && VCPU_OFFSET_CR4 == VCPU_OFFSET_CR0 + 16);
+    CHECK(VCPU_OFFSET_WAITING == 1068 && VCPU_OFFSET_VECTORS == 1069 && VCPU_OFFSET_CODED == 1133 && VCPU_OFFSET_CODES == 1141);
+    CHECK(VCPU_OFFSET_PAIRS == 1141 + 256 && VCPU_OFFSET_CR0 == VCPU_OFFSET_PAIRS + 40 && VCPU_OFFSET_CR4 == VCPU_OFFSET_CR0 + 16);
     CHECK(VCPU_RECORD_LENGTH == VCPU_OFFSET_CR4 + 16);
     CHECK(VCPU_REFUSED_PHASE == 1 && VCPU_REFUSED_BYTES == 2 && VCPU_REFUSED_ENCODING == 3 && VCPU_REFUSED_READ_ONLY == 4);
     CHECK(VCPU_REFUSED_WIDTH == 5 && VCPU_REFUSED_VECTOR == 12 && VCPU_REFUSED_FULL == 13 && VCPU_REFUSED_SUM == 17);

@@ -201,8 +201,6 @@ static void any_record(uint8_t *r)
     r[1] = (uint8_t)(below(32) ? below(2) : 2);
     put(r, VCPU_OFFSET_HELD, 4, below(32) ? get(r, VCPU_OFFSET_ENTRIES, 4) / 2 : any() & 0xFFFFFFFF);
     r[VCPU_OFFSET_WAITING] = (uint8_t)below(66);
-    for (i = 0; i < 64; i++)
-        r[VCPU_OFFSET_CODED + i] = (uint8_t)below(2);
 }
 
 /* ---- the calls ---- */

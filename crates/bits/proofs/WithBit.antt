@@ -4,13 +4,14 @@ use mathlib.Core.Bool.{Bool, true, false}
 use mathlib.Core.Logic.{_≢_, dite}
 use Prim.Native.Nat.{ℕ, zero, suc, _+_, _-_, _*_, _/_, _%_, _^_, _<_}
 use native.Mathlib.Nat.{mod-lt, mod-eq-of-lt, one-mul}
-use native.Mathlib.Decide.{decLt}
+use native.Mathlib.Decide.{decLt, ℕ-discrete}
 use native.Mathlib.Omega.{arith}
 use lib.Arith.{digits-lt, digits-div, digits-mod}
 use lib.Bits.{bitAnd, bitOr, or-block, or-step, or-zero-r, and-block, and-high, and-mask}
 use lib.Dec.{eqb}
 use lib.Pow.{pow-pos, pow-lt, pow-add, split, ones-lt, shr-lt, shr-shr, field, mod-mod-pow}
 use Rattle.bits.specs.Words.{bitNot, bit, flag, withBit}
+use Rattle.bits.proofs.BitLaws.{bit-suc, same-bits}
 
 -- bit k as a digit
 abbrev digit : ℕ → ℕ → ℕ
@@ -67,6 +68,19 @@ bit-kept k v a j n = ap (λ (x : ℕ). eqb x 1) (dite (decLt j k) below (λ g. a
 
     above : k < j → digit j (withBit k v a) ≡ digit j a
     above h = sym (digit-of-high (withBit k v a) k j h) ∙ ap (λ (m : ℕ). digit (j - (k + 1)) m) same-half ∙ digit-of-high a k j h
+
+-- the half of a word with a bit written
+pub half-written : (v : Bool) (a : ℕ) → withBit 0 v a / 2 ≡ a / 2
+half-written v a = same-bits _ _ (λ i. sym (bit-suc i (withBit 0 v a)) ∙ bit-kept 0 v a (suc i) (λ e. omega arith) ∙ bit-suc i a)
+
+pub half-kept : (k : ℕ) (v : Bool) (a : ℕ) → withBit (suc k) v a / 2 ≡ withBit k v (a / 2)
+half-kept k v a = same-bits _ _ (λ i. sym (bit-suc i (withBit (suc k) v a)) ∙ dite (ℕ-discrete i k) (own i) (other i))
+  where
+    own : (i : ℕ) → i ≡ k → bit (suc i) (withBit (suc k) v a) ≡ bit i (withBit k v (a / 2))
+    own i e = rw e (bit-written (suc k) v a ∙ sym (bit-written k v (a / 2)))
+
+    other : (i : ℕ) → i ≢ k → bit (suc i) (withBit (suc k) v a) ≡ bit i (withBit k v (a / 2))
+    other i n = bit-kept (suc k) v a (suc i) (λ e. n (omega arith)) ∙ bit-suc i a ∙ sym (bit-kept k v (a / 2) i n)
 
 -- a word of w bits has w bits with a bit below w written
 pub withBit-lt : (w k : ℕ) (v : Bool) (a : ℕ) → k < w → a < 2 ^ w → withBit k v a < 2 ^ w

@@ -1,67 +1,54 @@
--- The events of three arrays: one stored, the front taken off, how many there are. Assumes nothing.
-use Prim.Native.Nat.{ℕ, zero, suc, _-_, _<_, _≤_}
+-- The events of the queue's arrays and of the word that says which have a code: one stored, the front taken off, how many there are. Assumes nothing.
+use Prim.Native.Nat.{ℕ, zero, suc, _-_, _/_, _<_, _≤_}
 use mathlib.Core.Path.{_≡_, refl, ap}
-use mathlib.Core.Bool.{Bool, false}
+use mathlib.Core.Bool.{Bool}
 use mathlib.Core.List.{List, [], _∷_, _++_}
 use native.Mathlib.Omega.{arith}
 use native.Mathlib.Nat.{not-suc-le-zero}
 use native.Mathlib.Numerals.{sub-one}
 use lib.ListN.{length, getD, take, drop, set}
 use lib.Seq.{take-append-le}
+use Rattle.bits.specs.Words.{bit, withBit}
+use Rattle.bits.proofs.BitLaws.{bit-suc}
+use Rattle.bits.proofs.WithBit.{bit-written, bit-kept, half-written, half-kept}
 use Rattle.vcpu_events.specs.Queue.{shifted}
-use Rattle.calls.specs.Reference.{Event}
 use Rattle.calls.specs.Calls.{eventOf, eventsOf}
 
--- arrays of one length
-pub record Alike (vs : List ℕ) (bs : List Bool) (cs : List ℕ) : Type 0 where
-  pub coded : length bs ≡ length vs
-  pub codes : length cs ≡ length vs
+pub events-set : (vs : List ℕ) (w : ℕ) (cs : List ℕ) (n v : ℕ) (b : Bool) (c : ℕ)
+    → eventsOf (set vs n v) (withBit n b w) (set cs n c) ≡ set (eventsOf vs w cs) n (eventOf v b c)
+events-set [] w cs n v b c = refl
+events-set (x ∷ vs) w [] zero v b c = refl
+events-set (x ∷ vs) w [] (suc n) v b c = refl
+events-set (x ∷ vs) w (z ∷ cs) zero v b c = rw (bit-written 0 b w, half-written b w)
+events-set (x ∷ vs) w (z ∷ cs) (suc n) v b c = rw (bit-kept (suc n) b w 0 (λ e. omega arith), half-kept n b w, events-set vs (w / 2) cs n v b c)
 
-rest : {v : ℕ} {vs : List ℕ} {b : Bool} {bs : List Bool} {c : ℕ} {cs : List ℕ} → Alike (v ∷ vs) (b ∷ bs) (c ∷ cs) → Alike vs bs cs
-rest a = let p = a .coded in let q = a .codes in record { coded = omega arith; codes = omega arith }
+pub events-long : (vs : List ℕ) (w : ℕ) (cs : List ℕ) → length cs ≡ length vs → length (eventsOf vs w cs) ≡ length vs
+events-long [] w cs a = refl
+events-long (x ∷ vs) w [] a = absurd (omega arith)
+events-long (x ∷ vs) w (z ∷ cs) a = ap suc (events-long vs (w / 2) cs (omega arith))
 
-pub events-set : (vs : List ℕ) (bs : List Bool) (cs : List ℕ) (n v : ℕ) (b : Bool) (c : ℕ)
-    → eventsOf (set vs n v) (set bs n b) (set cs n c) ≡ set (eventsOf vs bs cs) n (eventOf v b c)
-events-set [] bs cs n v b c = refl
-events-set (x ∷ vs) [] cs zero v b c = refl
-events-set (x ∷ vs) [] cs (suc n) v b c = refl
-events-set (x ∷ vs) (y ∷ bs) [] zero v b c = refl
-events-set (x ∷ vs) (y ∷ bs) [] (suc n) v b c = refl
-events-set (x ∷ vs) (y ∷ bs) (z ∷ cs) zero v b c = refl
-events-set (x ∷ vs) (y ∷ bs) (z ∷ cs) (suc n) v b c = ap (λ (l : List Event). eventOf x y z ∷ l) (events-set vs bs cs n v b c)
+events-last : (vs : List ℕ) (w : ℕ) (cs : List ℕ) (v c : ℕ) → length cs ≡ length vs
+    → eventsOf (vs ++ (v ∷ [])) w (cs ++ (c ∷ [])) ≡ eventsOf vs w cs ++ (eventOf v (bit (length vs) w) c ∷ [])
+events-last [] w [] v c a = refl
+events-last [] w (z ∷ cs) v c a = absurd (omega arith)
+events-last (x ∷ vs) w [] v c a = absurd (omega arith)
+events-last (x ∷ vs) w (z ∷ cs) v c a = rw (events-last vs (w / 2) cs v c (omega arith), bit-suc (length vs) w)
 
-pub events-long : (vs : List ℕ) (bs : List Bool) (cs : List ℕ) → Alike vs bs cs → length (eventsOf vs bs cs) ≡ length vs
-events-long [] bs cs a = refl
-events-long (x ∷ vs) [] cs a = absurd (let p = a .coded in omega arith)
-events-long (x ∷ vs) (y ∷ bs) [] a = absurd (let p = a .codes in omega arith)
-events-long (x ∷ vs) (y ∷ bs) (z ∷ cs) a = ap suc (events-long vs bs cs (rest a))
-
-events-last : (vs : List ℕ) (bs : List Bool) (cs : List ℕ) (v : ℕ) (b : Bool) (c : ℕ) → Alike vs bs cs
-    → eventsOf (vs ++ (v ∷ [])) (bs ++ (b ∷ [])) (cs ++ (c ∷ [])) ≡ eventsOf vs bs cs ++ (eventOf v b c ∷ [])
-events-last [] [] [] v b c a = refl
-events-last [] [] (z ∷ cs) v b c a = absurd (let p = a .codes in omega arith)
-events-last [] (y ∷ bs) cs v b c a = absurd (let p = a .coded in omega arith)
-events-last (x ∷ vs) [] cs v b c a = absurd (let p = a .coded in omega arith)
-events-last (x ∷ vs) (y ∷ bs) [] v b c a = absurd (let p = a .codes in omega arith)
-events-last (x ∷ vs) (y ∷ bs) (z ∷ cs) v b c a = ap (λ (l : List Event). eventOf x y z ∷ l) (events-last vs bs cs v b c (rest a))
-
--- the arrays moved down
-pub events-shifted : (vs : List ℕ) (bs : List Bool) (cs : List ℕ) → Alike vs bs cs → 0 < length vs
-    → eventsOf (shifted 0 vs) (shifted false bs) (shifted 0 cs) ≡ drop 1 (eventsOf vs bs cs) ++ (eventOf 0 false 0 ∷ [])
+-- the front taken off: the arrays and the word moved down
+pub events-shifted : (vs : List ℕ) (w : ℕ) (cs : List ℕ) → length cs ≡ length vs → 0 < length vs
+    → eventsOf (shifted 0 vs) (w / 2) (shifted 0 cs) ≡ drop 1 (eventsOf vs w cs) ++ (eventOf 0 (bit (length vs) w) 0 ∷ [])
 unfolding shifted
-events-shifted [] bs cs a h = absurd (not-suc-le-zero h)
-events-shifted (x ∷ vs) [] cs a h = absurd (let p = a .coded in omega arith)
-events-shifted (x ∷ vs) (y ∷ bs) [] a h = absurd (let p = a .codes in omega arith)
-events-shifted (x ∷ vs) (y ∷ bs) (z ∷ cs) a h = events-last vs bs cs 0 false 0 (rest a)
+events-shifted [] w cs a h = absurd (not-suc-le-zero h)
+events-shifted (x ∷ vs) w [] a h = absurd (omega arith)
+events-shifted (x ∷ vs) w (z ∷ cs) a h = rw (bit-suc (length vs) w) (events-last vs (w / 2) cs 0 0 (omega arith))
 
 -- where one waits, it is at the front
-pub events-front : (n : ℕ) (vs : List ℕ) (bs : List Bool) (cs : List ℕ) → Alike vs bs cs → 0 < n → 0 < length vs
-    → take n (eventsOf vs bs cs) ≡ eventOf (getD vs 0 0) (getD bs 0 false) (getD cs 0 0) ∷ drop 1 (take n (eventsOf vs bs cs))
-events-front zero vs bs cs a h l = absurd (not-suc-le-zero h)
-events-front (suc n) [] bs cs a h l = absurd (not-suc-le-zero l)
-events-front (suc n) (x ∷ vs) [] cs a h l = absurd (let p = a .coded in omega arith)
-events-front (suc n) (x ∷ vs) (y ∷ bs) [] a h l = absurd (let p = a .codes in omega arith)
-events-front (suc n) (x ∷ vs) (y ∷ bs) (z ∷ cs) a h l = refl
+pub events-front : (n : ℕ) (vs : List ℕ) (w : ℕ) (cs : List ℕ) → length cs ≡ length vs → 0 < n → 0 < length vs
+    → take n (eventsOf vs w cs) ≡ eventOf (getD vs 0 0) (bit 0 w) (getD cs 0 0) ∷ drop 1 (take n (eventsOf vs w cs))
+events-front zero vs w cs a h l = absurd (not-suc-le-zero h)
+events-front (suc n) [] w cs a h l = absurd (not-suc-le-zero l)
+events-front (suc n) (x ∷ vs) w [] a h l = absurd (omega arith)
+events-front (suc n) (x ∷ vs) w (z ∷ cs) a h l = refl
 
 -- what waits once the front is off
 pub take-shifted : {A : Type 0} (n : ℕ) (l : List A) (x : A) → n ≤ length l → take (n - 1) (drop 1 l ++ (x ∷ [])) ≡ drop 1 (take n l)

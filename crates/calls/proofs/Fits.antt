@@ -1,14 +1,15 @@
 -- Well-typed calls keep sessions within their types, and lawful: every session that they lead to has a record. Assumes nothing.
 use Prim.Native.Nat.{ℕ, zero, suc, _^_, _<_}
-use mathlib.Core.Path.{_≡_, _∙_}
-use mathlib.Core.Bool.{Bool, true, false, cond, not}
+use mathlib.Core.Path.{_≡_}
+use mathlib.Core.Bool.{Bool, true, cond, not}
 use mathlib.Core.List.{List, [], _∷_, _++_}
 use native.Mathlib.Omega.{arith}
 use lib.Bits.{or-lt}
 use lib.Dec.{eqb, leb, ltb, lit<}
-use lib.ListN.{length, drop, length-set, length-append, length-drop}
+use lib.ListN.{length, drop, length-append, length-drop}
 use borrow.Author.Tests.{eqb-false, leb-false, ltb-false}
 use Rattle.bits.specs.Words.{low32, high32}
+use Rattle.bits.proofs.WithBit.{withBit-lt}
 use Rattle.bits.specs.LittleEndian.{Below}
 use Rattle.definitions.specs.Interruption.{hasErrorCode, isSoft, fromVector}
 use Rattle.definitions.proofs.EventLaws.{event-bits}
@@ -51,7 +52,7 @@ use Rattle.x86_vcpu.proofs.SetupCalls.{keeps-setup}
 use Rattle.calls.proofs.Keeps.{keeps-queue-step, keeps-interrupt, keeps-field, keeps-register, keeps-apic, keeps-entry}
 use Rattle.calls.specs.Reference.{Call, setup, queueEvent, injectInterrupt, entry, exitReport, apicValue, fieldWrite, registerWrite, WellTyped}
 use Rattle.calls.proofs.Choices.{cond-all}
-use Rattle.record_edits.proofs.Fits.{numbers-set, length-shifted, numbers-shifted, reg-fits, put-fits}
+use Rattle.record_edits.proofs.Fits.{numbers-set, numbers-shifted, reg-fits, put-fits}
 use Rattle.calls.proofs.Fields.{value-fits, applied-fits}
 use Rattle.calls.proofs.SetupFits.{writes-fit, capabilities-fit}
 use Rattle.calls.proofs.ReportFits.{block-fits, report-fits}
@@ -99,7 +100,7 @@ module _ (s : Session) (h : Sound s) where
       record {
         waiting = omega arith;
         vectors = numbers-set (s .queue .waiting) (e .vector) (q .vectors) v;
-        coded = length-set (s .queue .coded) (s .queue .waiting) (e .coded) ∙ q .coded;
+        coded = withBit-lt 64 (s .queue .waiting) (e .coded) (s .queue .coded) lt (q .coded);
         codes = numbers-set (s .queue .waiting) (cond (e .coded) (e .code) 0) (q .codes)
             (cond-all (λ (x : ℕ). x < 2 ^ 32) (e .coded) _ _ (λ _. k) (λ _. lit< tt));
       }
@@ -171,7 +172,7 @@ module _ (s : Session) (h : Sound s) where
         queue = record {
           waiting = omega (arith, q .waiting);
           vectors = numbers-shifted 0 (q .vectors) (lit< tt);
-          coded = length-shifted false (s .queue .coded) (q .coded);
+          coded = omega (arith, q .coded);
           codes = numbers-shifted 0 (q .codes) (lit< tt);
         };
         capabilities = h .fits .capabilities;

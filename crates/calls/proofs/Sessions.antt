@@ -1,6 +1,6 @@
 -- The same calls on sessions, and what holds of every session that they lead to. Assumes nothing.
 use Prim.Native.Nat.{ℕ}
-use mathlib.Core.Path.{sym, _∙_}
+use mathlib.Core.Path.{_≡_, sym, _∙_}
 use mathlib.Core.Bool.{Bool, cond, _&&_}
 use mathlib.Core.List.{List}
 use lib.Dec.{eqb}
@@ -24,7 +24,6 @@ use Rattle.record.specs.Fitting.{Fitting}
 use Rattle.x86_vcpu.specs.Records.{queueStep}
 use Rattle.calls.specs.Reference.{Call, setup, queueEvent, injectInterrupt, entry, exitReport, apicValue, fieldWrite, registerWrite}
 use Rattle.calls.specs.Calls.{Outcome, Logged, waitingOf, afterAll, logged, logOf}
-use Rattle.calls.proofs.Events.{Alike}
 use Rattle.calls.proofs.Fields.{fits-sized}
 
 -- the buffers of setup but the record
@@ -72,7 +71,6 @@ pub record Sound (s : Session) : Type 0 where
 pub sound-sized : (s : Session) → Sound s → Sized (s .vmcs)
 sound-sized s h = fits-sized (s .vmcs) (h .fits .vmcs)
 
-pub sound-alike : (s : Session) → Sound s → Alike (s .queue .vectors) (s .queue .coded) (s .queue .codes)
-sound-alike s h =
-    let v = h .fits .queue .vectors .sized in
-    record { coded = h .fits .queue .coded ∙ sym v; codes = h .fits .queue .codes .sized ∙ sym v }
+-- as many codes as vectors
+pub sound-alike : (s : Session) → Sound s → length (s .queue .codes) ≡ length (s .queue .vectors)
+sound-alike s h = h .fits .queue .codes .sized ∙ sym (h .fits .queue .vectors .sized)

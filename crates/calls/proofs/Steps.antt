@@ -12,7 +12,7 @@ use lib.ListN.{length, getD, take, drop, set}
 use lib.Seq.{take-suc-set, length-take-le}
 use lib.Dec.{eqb, ltb, leb, lit<, eqb·suc-zero}
 use borrow.Author.Tests.{eqb-true, eqb-false, leb-true, leb-false, ltb-true, ltb-false, not-true, not-false, eq-eqb, ne-eqb, le-leb}
-use Rattle.bits.specs.Words.{bit, high32}
+use Rattle.bits.specs.Words.{bit, withBit, high32}
 use Rattle.vmcs.specs.Control.{pairAt}
 use Rattle.vmcs.specs.Field.{valueOf, put}
 use Rattle.vmcs.specs.declared.Vmcs.{Vmcs}
@@ -58,7 +58,7 @@ use Rattle.x86_vcpu.specs.Records.{queueStep}
 use Rattle.calls.specs.Reference.{choose, Call, setup, queueEvent, injectInterrupt, entry, exitReport, apicValue, fieldWrite, registerWrite, WellTyped, Event, queuedBy, entriesBy, injectedBy, leftBy, heldBy, IsHeld, isHeld, answerOn, validBy, waits, Effect, inPhase, effect, accept, referenceStep, referenceAnswer, by, Refuses, Buffers, reportRules, rules}
 use Rattle.calls.specs.Calls.{Outcome, isRefused, eventOf, eventsOf, waitingOf, viewOf, guardedOf}
 use Rattle.calls.proofs.Choices.{cond-all, impossible, chosen, choose-ap}
-use Rattle.calls.proofs.Events.{Alike, events-set, events-long, events-shifted, events-front, take-shifted}
+use Rattle.calls.proofs.Events.{events-set, events-long, events-shifted, events-front, take-shifted}
 use Rattle.calls.proofs.RawWrites.{Names, raw-read, placed-listed, listed-placed}
 use Rattle.calls.proofs.WordBits.{tabled}
 use Rattle.calls.proofs.Fields.{Same, same-stack, same-window, same-injected, injected-word}
@@ -138,7 +138,7 @@ module _ (j : List Event) (s : Session) (c : Call) where
             (sound-alike s h),
         h .fits .queue .vectors .sized,
       ) in
-      let last : take (k + 1) (eventsOf (set (s .queue .vectors) k (e .vector)) (set (s .queue .coded) k (e .coded))
+      let last : take (k + 1) (eventsOf (set (s .queue .vectors) k (e .vector)) (withBit k (e .coded) (s .queue .coded))
       (set (s .queue .codes) k (cond (e .coded) (e .code) 0)))
       ≡ waitingOf s ++ queuedBy c
       = ap (take (k + 1)) (events-set (s .queue .vectors) (s .queue .coded) (s .queue .codes) k (e .vector) (e .coded) (cond (e .coded) (e .code) 0))
@@ -307,14 +307,14 @@ of-held v f i h =
     (elim (h .1) [ inl x ↦ rw (bit-clear (f / 2 ^ 9) x) | inr y ↦ rw (ne-eqb i 0 (λ z. omega arith)) (or-true (eqb (f / 2 ^ 9 % 2) 0)) ])
 
 -- the answer, from the arrays and from the events that wait
-front : (n : ℕ) (vs : List ℕ) (bs : List Bool) (cs : List ℕ) (f i : ℕ) → Alike vs bs cs → 0 < length vs
-    → cond (eqb n 0) Empty (cond (Entry.isHeld (getD vs 0 0) f i) Held Written) ≡ answerOn (take n (eventsOf vs bs cs)) (bit 9 f) i
-front zero vs bs cs f i a h = refl
-front (suc n) vs bs cs f i a h =
+front : (n : ℕ) (vs : List ℕ) (w : ℕ) (cs : List ℕ) (f i : ℕ) → length cs ≡ length vs → 0 < length vs
+    → cond (eqb n 0) Empty (cond (Entry.isHeld (getD vs 0 0) f i) Held Written) ≡ answerOn (take n (eventsOf vs w cs)) (bit 9 f) i
+front zero vs w cs f i a h = refl
+front (suc n) vs w cs f i a h =
     rw (eqb·suc-zero n)
     (chosen (isHeld (getD vs 0 0) (bit 9 f) i) (Entry.isHeld (getD vs 0 0) f i) Held Written (held-of (getD vs 0 0) f i)
     (λ e k. true≢false (sym (of-held (getD vs 0 0) f i k) ∙ e))
-    ∙ sym (ap (λ (l : List Event). answerOn l (bit 9 f) i) (events-front (suc n) vs bs cs a (omega arith) h)))
+    ∙ sym (ap (λ (l : List Event). answerOn l (bit 9 f) i) (events-front (suc n) vs w cs a (omega arith) h)))
 
 answers-so : (s : Session) → Sound s
     → injectionOf (s .queue) (s .vmcs) ≡ answerOn (waitingOf s) (bit 9 (valueOf (s .vmcs) VmcsGuestNW.RFLAGS))
@@ -382,9 +382,9 @@ module _ (j : List Event) (s : Session) (stack : ℕ) (h : Sound s) where
       let q = s .queue in
       let few : q .waiting ≤ length (eventsOf (q .vectors) (q .coded) (q .codes))
       = omega (arith, events-long (q .vectors) (q .coded) (q .codes) (sound-alike s h), h .fits .queue .vectors .sized, h .lawful .waiting) in
-      let rest : take (q .waiting - 1) (eventsOf (shifted 0 (q .vectors)) (shifted false (q .coded)) (shifted 0 (q .codes))) ≡ drop 1 (waitingOf s)
+      let rest : take (q .waiting - 1) (eventsOf (shifted 0 (q .vectors)) (q .coded / 2) (shifted 0 (q .codes))) ≡ drop 1 (waitingOf s)
       = ap (take (q .waiting - 1)) (events-shifted (q .vectors) (q .coded) (q .codes) (sound-alike s h) (omega (arith, h .fits .queue .vectors .sized)))
-      ∙ take-shifted (q .waiting) _ (eventOf 0 false 0) few in
+      ∙ take-shifted (q .waiting) _ _ few in
       let word : bit 31 (valueOf (injected begun e) VmcsControl32.VMENTRY_INTERRUPTION_INFO_FIELD) ≡ true
       = ap (bit 31) (injected-word begun e z) ∙ ap (λ (w : ℕ). eqb (w % 2) 1) (tabled (e .vector) (h .fits .queue .vectors .below 0) .word .valid) in
       λ i. record {

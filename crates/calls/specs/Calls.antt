@@ -1,6 +1,6 @@
 -- A list of calls on one session's byte record, each as the exported function's contract gives it, and what is counted and listed of them: what demand 3
 -- compares with the reference. Assumes nothing.
-use Prim.Native.Nat.{ℕ, _+_}
+use Prim.Native.Nat.{ℕ, _+_, _/_}
 use mathlib.Core.Path.{_≡_}
 use mathlib.Core.Bool.{Bool, true, false, cond, not, _||_}
 use mathlib.Core.List.{List, [], _∷_, _++_}
@@ -66,11 +66,11 @@ stepOf bytes (registerWrite index value) = plain (callOf (λ s. Access.setRegist
 abbrev pub eventOf : ℕ → Bool → ℕ → Event
 eventOf vector coded code = record { vector = vector; code = cond coded (some code) none }
 
-abbrev pub eventsOf : List ℕ → List Bool → List ℕ → List Event
-eventsOf [] bs cs = []
-eventsOf (v ∷ vs) [] cs = []
-eventsOf (v ∷ vs) (b ∷ bs) [] = []
-eventsOf (v ∷ vs) (b ∷ bs) (c ∷ cs) = eventOf v b c ∷ eventsOf vs bs cs
+-- bit 0 of the word says whether the first event has a code, the bits above it speak of the others
+abbrev pub eventsOf : List ℕ → ℕ → List ℕ → List Event
+eventsOf [] coded cs = []
+eventsOf (v ∷ vs) coded [] = []
+eventsOf (v ∷ vs) coded (c ∷ cs) = eventOf v (bit 0 coded) c ∷ eventsOf vs (coded / 2) cs
 
 -- the events that wait, front first
 abbrev pub waitingOf : Session → List Event

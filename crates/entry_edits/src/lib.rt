@@ -30,7 +30,7 @@ fn front_at(b: &[u8]) -> Event
 {
     Event {
         vector: words::get1(b, Record::VECTORS),
-        coded: words::get_flag(b, Record::CODED),
+        coded: record::coded_at(b) % 2 == 1,
         code: words::get4(b, Record::CODES),
     }
 }

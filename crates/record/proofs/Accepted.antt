@@ -2,18 +2,16 @@
 use mathlib.Core.Path.{_≡_, sym, _∙_}
 use mathlib.Core.Bool.{Bool, true}
 use mathlib.Core.List.{List}
-use Prim.Native.Nat.{ℕ, _+_, _≤_, _<_}
+use Prim.Native.Nat.{ℕ, _≤_}
 use native.Mathlib.Omega.{arith}
-use lib.ListN.{length, getD, drop}
-use lib.Seq.{drop-drop}
+use lib.ListN.{length, drop}
 use borrow.Author.Tests.{eqb-true, eq-eqb, leb-true, le-leb}
 use Rattle.bits.specs.LittleEndian.{littleEndian}
 use Rattle.bits.proofs.LittleEndianLaws.{number-one}
 use Rattle.record.specs.Record as Record
-use Rattle.record.specs.Runs.{flagsValid}
 use Rattle.record.specs.Codec.{acceptedOf}
 use Rattle.record.specs.Acceptable.{Acceptable}
-use Rattle.record.proofs.Flags.{both, each-flag, all-flags}
+use Rattle.record.proofs.Flags.{both}
 
 -- the tests that an accepted record passed
 pub record Passed (b : List ℕ) : Type 0 where
@@ -22,13 +20,11 @@ pub record Passed (b : List ℕ) : Type 0 where
   pub launched : littleEndian 1 (drop Record.LAUNCHED b) ≤ 1
   pub held : littleEndian 4 (drop Record.HELD b) ≤ littleEndian 4 (drop Record.ENTRIES b)
   pub waiting : littleEndian 1 (drop Record.WAITING b) ≤ 64
-  pub coded : flagsValid 64 (drop Record.CODED b) ≡ true
 
 pub passed : (b : List ℕ) → acceptedOf b ≡ true → Passed b
 unfolding acceptedOf
 passed b ok =
-    let t5 = both _ _ ok in
-    let t4 = both _ _ (t5 .0) in
+    let t4 = both _ _ ok in
     let t3 = both _ _ (t4 .0) in
     let t2 = both _ _ (t3 .0) in
     let t1 = both _ _ (t2 .0) in
@@ -38,7 +34,6 @@ passed b ok =
       launched = leb-true _ _ (t2 .1);
       held = leb-true _ _ (t3 .1);
       waiting = leb-true _ _ (t4 .1);
-      coded = t5 .1;
     }
 
 -- an accepted record has its length, also where `accepts` answered for it: entries for `search`
@@ -50,9 +45,6 @@ accepted-length b r e t = whole b (sym e ∙ t)
 
 -- ---- in ≤ and ≡ alone
 
-coded-byte : (b : List ℕ) (i : ℕ) → length b ≡ Record.LENGTH → i < 64 → littleEndian 1 (drop i (drop Record.CODED b)) ≡ getD b (Record.CODED + i) 0
-coded-byte b i whole h = rw (drop-drop i Record.CODED b) (number-one b (Record.CODED + i) (omega arith))
-
 pub acceptable : (b : List ℕ) → acceptedOf b ≡ true → Acceptable b
 acceptable b ok =
     let t = passed b ok in
@@ -63,7 +55,6 @@ acceptable b ok =
       launched = rw (number-one b Record.LAUNCHED (omega arith)) at (t .launched);
       held = t .held;
       waiting = rw (number-one b Record.WAITING (omega arith)) at (t .waiting);
-      coded = λ i h. rw (coded-byte b i whole h) at (each-flag 64 (drop Record.CODED b) (t .coded) i h);
     }
 
 pub accepts-acceptable : (b : List ℕ) → Acceptable b → acceptedOf b ≡ true
@@ -79,5 +70,4 @@ accepts-acceptable b a =
       le-leb _ _ (a .held),
       number-one b Record.WAITING (omega arith),
       le-leb _ _ (a .waiting),
-      all-flags 64 (drop Record.CODED b) (λ i h. rw (coded-byte b i whole h) (a .coded i h)),
     )

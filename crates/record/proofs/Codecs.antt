@@ -6,7 +6,7 @@ use Prim.Native.Nat.{ℕ, zero, suc, _+_, _*_, _^_, _≤_, _<_}
 use native.Mathlib.Nat.{zero-mul, suc-mul, one-le-pow}
 use native.Mathlib.Omega.{arith}
 use lib.ListN.{length, take, drop, length-append, length-drop, length-take}
-use lib.Seq.{take-add, drop-at, drop-drop}
+use lib.Seq.{take-add, drop-at}
 use lib.Dec.{lit<}
 use Rattle.bits.specs.Words.{flag}
 use Rattle.bits.specs.LittleEndian.{littleEndian, bytesOf, Below}
@@ -18,7 +18,7 @@ use Rattle.vmcs.specs.declared.controls.Pair.{Pair}
 use Rattle.record.specs.Runs.{readAll, All, Run, Takes, Numbers, numbers, numberBytes, flagOf, flagBytes}
 use Rattle.record.specs.Codec.{pairOf, pairBytes, fixedOf, fixedBytes}
 use Rattle.record.specs.Fitting.{PairFits, FixedFits}
-use Rattle.record.proofs.Loops.{length-flatMap, all-map, all-of, Any}
+use Rattle.record.proofs.Loops.{length-flatMap, all-map, Any}
 
 module _ {A : Type 0} where
   -- values of `size` bytes: a value that fits is read back from its bytes, and valid bytes are the bytes of the value that they spell
@@ -28,12 +28,9 @@ module _ {A : Type 0} where
     pub same : (bs : List ℕ) → Below 256 bs → size ≤ length bs → Valid bs → write (read bs) ≡ take size bs
     pub fits : (bs : List ℕ) → Below 256 bs → size ≤ length bs → Fits (read bs)
 
--- each of the first n pieces of `size` bytes is valid
-abbrev pub EachValid : (List ℕ → Type 0) → ℕ → ℕ → List ℕ → Type 0
-EachValid Valid n size bs = (i : ℕ) → i < n → Valid (drop (i * size) bs)
-
+-- runs of values for which all bytes are valid
 module _ {A : Type 0} where
-  module _ {size : ℕ} {read : List ℕ → A} {write : A → List ℕ} {Fits : A → Type 0} {Valid : List ℕ → Type 0} (c : Codec size read write Fits Valid) where
+  module _ {size : ℕ} {read : List ℕ → A} {write : A → List ℕ} {Fits : A → Type 0} (c : Codec size read write Fits Any) where
     run-back : (vs : List A) (rest : List ℕ) → All Fits vs → readAll size read (length vs) (flatMap write vs ++ rest) ≡ vs
     unfolding readAll flatMap
     run-back [] rest h = refl
@@ -45,20 +42,15 @@ module _ {A : Type 0} where
           run-back vs rest (h .1),
         )
 
-    later : (n : ℕ) (bs : List ℕ) → EachValid Valid (suc n) size bs → EachValid Valid n size (drop size bs)
-    later n bs valid i h =
-        let sum : suc i * size ≡ size + i * size = omega (arith, suc-mul i size) in
-        rw (drop-drop (i * size) size bs, ← sum) (valid (suc i) (omega arith))
-
-    run-same : (n : ℕ) (bs : List ℕ) → Below 256 bs → n * size ≤ length bs → EachValid Valid n size bs → flatMap write (readAll size read n bs) ≡ take (n * size) bs
+    run-same : (n : ℕ) (bs : List ℕ) → Below 256 bs → n * size ≤ length bs → flatMap write (readAll size read n bs) ≡ take (n * size) bs
     unfolding readAll flatMap
-    run-same zero bs below long valid = rw zero-mul
-    run-same (suc n) bs below long valid =
+    run-same zero bs below long = rw zero-mul
+    run-same (suc n) bs below long =
         let turn : suc n * size ≡ size + n * size = omega (arith, suc-mul n size) in
         let rest : n * size ≤ length (drop size bs) = simp length-drop (omega arith) in
         rw (
-          c .same bs below (omega arith) (rw zero-mul at (valid 0 (omega arith))),
-          run-same n (drop size bs) (below-drop size bs below) rest (later n bs valid),
+          c .same bs below (omega arith) tt,
+          run-same n (drop size bs) (below-drop size bs below) rest,
           turn,
           take-add size (n * size) bs,
         )
@@ -73,12 +65,12 @@ module _ {A : Type 0} where
         record { sized = ap suc (r .sized); each = (c .fits bs below (omega arith), r .each) }
 
     -- n of them
-    pub run : (n : ℕ) → Codec (n * size) (readAll size read n) (flatMap write) (Run n Fits) (EachValid Valid n size)
+    pub run : (n : ℕ) → Codec (n * size) (readAll size read n) (flatMap write) (Run n Fits) Any
     run n =
         record {
           sized = λ vs r. length-flatMap size write vs (all-map (c .sized) vs (r .each)) ∙ rw (r .sized);
           back = λ vs rest r. rw (← r .sized) (run-back vs rest (r .each));
-          same = run-same n;
+          same = λ bs below long _. run-same n bs below long;
           fits = run-fits n;
         }
 
@@ -105,7 +97,7 @@ all-below m (v ∷ vs) pos h zero = h .0
 all-below m (v ∷ vs) pos h (suc i) = all-below m vs pos (h .1) i
 
 -- n of them
-pub numbers-codec : (k n : ℕ) → Codec (n * k) (numbers k n) (numberBytes k) (Numbers n k) (EachValid Any n k)
+pub numbers-codec : (k n : ℕ) → Codec (n * k) (numbers k n) (numberBytes k) (Numbers n k) Any
 numbers-codec k n =
     let c = run (number k) n in
     let fit : (vs : List ℕ) → Numbers n k vs → Run n (Takes k) vs = λ vs h. record { sized = h .sized; each = below-all (256 ^ k) vs (h .below) } in
@@ -139,17 +131,6 @@ yes-no =
       back = λ on rest h. rw (number-written 1 (flag on) rest (flag-small on)) (flag-read on);
       same = λ bs below long h. rw (← is-flag (littleEndian 1 bs) (omega arith)) (written-number 1 bs below long);
       fits = λ bs below long. tt;
-    }
-
-pub flags : (n : ℕ) → Codec (n * 1) (readAll 1 flagOf n) (flatMap flagBytes) (λ vs. length vs ≡ n) (EachValid IsFlag n 1)
-flags n =
-    let c = run yes-no n in
-    let fit : (vs : List Bool) → length vs ≡ n → Run n Any vs = λ vs e. record { sized = e; each = all-of (λ on. tt) vs } in
-    record {
-      sized = λ vs e. c .sized vs (fit vs e);
-      back = λ vs rest e. c .back vs rest (fit vs e);
-      same = c .same;
-      fits = λ bs below long. c .fits bs below long .sized;
     }
 
 -- ---- two numbers of k bytes

@@ -3,7 +3,6 @@ use mathlib.Core.Path.{_≡_, refl, sym, ap, _∙_, subst}
 use mathlib.Core.Bool.{Bool, true, false, cond}
 use mathlib.Core.List.{List, [], _∷_, _++_, map, flatMap, flatten}
 use Prim.Native.Nat.{ℕ, zero, suc, _+_, _≤_}
-use native.Mathlib.Nat.{mul-one}
 use native.Mathlib.Omega.{arith}
 use lib.ListN.{length, take, drop, replicate, length-drop}
 use lib.Seq.{take-all, sets}
@@ -18,7 +17,7 @@ use Rattle.vcpu_session.specs.Session.{newSession, isUnlawful, Lawful}
 use Rattle.vcpu_session.proofs.LawfulLaws.{lawful-of, of-lawful}
 use Rattle.record.specs.declared.Decoded.{Decoded}
 use Rattle.record.specs.Record as Record
-use Rattle.record.specs.Runs.{readAll, Numbers, storedAt, flagOf, flagsValid}
+use Rattle.record.specs.Runs.{readAll, Numbers, storedAt, flagOf}
 use Rattle.record.specs.Codec.{pairOf, fixedOf, sessionOf, partsOf, encodeOf, acceptedOf, decoded, decodeOf}
 use Rattle.record.specs.Fitting.{Fitting}
 use Rattle.record.specs.Acceptable.{Acceptable}
@@ -26,13 +25,13 @@ use Rattle.record.specs.Faithful.{Faithful}
 use Rattle.record.proofs.Stores.{sets-whole}
 use Rattle.record.proofs.Parts.{total, starts, cut, length-flatten, stored-parts, from-part, joined}
 use Rattle.record.proofs.Loops.{length-readAll}
-use Rattle.record.proofs.Flags.{each-flag, flag-written, flags-written}
+use Rattle.record.proofs.Flags.{flag-written}
 use Rattle.record.proofs.Accepted.{passed, whole, acceptable, accepts-acceptable}
-use Rattle.record.proofs.Codecs.{Codec, run, number, numbers-codec, registers-read, yes-no, flags, pair, fixed}
+use Rattle.record.proofs.Codecs.{Codec, run, number, numbers-codec, registers-read, yes-no, pair, fixed}
 
 -- how many bytes each part has
 abbrev pub sizes : List ℕ
-sizes = 1 ∷ 1 ∷ 4 ∷ 4 ∷ 128 ∷ 34 ∷ 200 ∷ 328 ∷ 368 ∷ 1 ∷ 64 ∷ 64 ∷ 256 ∷ 40 ∷ 16 ∷ 16 ∷ []
+sizes = 1 ∷ 1 ∷ 4 ∷ 4 ∷ 128 ∷ 34 ∷ 200 ∷ 328 ∷ 368 ∷ 1 ∷ 64 ∷ 8 ∷ 256 ∷ 40 ∷ 16 ∷ 16 ∷ []
 
 -- ---- the bytes of a session
 
@@ -51,7 +50,7 @@ module _ (s : Session) (f : Fitting s) where
       ∷ numbers-codec 8 46 .sized (s .vmcs .natural) (f .vmcs .natural) i
       ∷ number 1 .sized (s .queue .waiting) (f .queue .waiting) i
       ∷ numbers-codec 1 64 .sized (s .queue .vectors) (f .queue .vectors) i
-      ∷ flags 64 .sized (s .queue .coded) (f .queue .coded) i
+      ∷ number 8 .sized (s .queue .coded) (f .queue .coded) i
       ∷ numbers-codec 4 64 .sized (s .queue .codes) (f .queue .codes) i
       ∷ run pair 5 .sized (s .capabilities .pairs) (f .capabilities .pairs) i
       ∷ fixed .sized (s .capabilities .cr0) (f .capabilities .cr0) i
@@ -93,7 +92,7 @@ module _ (s : Session) (f : Fitting s) where
       let natural = part-read (numbers-codec 8 46) (s .vmcs .natural) _ _ (f .vmcs .natural) (from 8) in
       let waiting = part-read (number 1) (s .queue .waiting) _ _ (f .queue .waiting) (from 9) in
       let vectors = part-read (numbers-codec 1 64) (s .queue .vectors) _ _ (f .queue .vectors) (from 10) in
-      let coded = part-read (flags 64) (s .queue .coded) _ _ (f .queue .coded) (from 11) in
+      let coded = part-read (number 8) (s .queue .coded) _ _ (f .queue .coded) (from 11) in
       let codes = part-read (numbers-codec 4 64) (s .queue .codes) _ _ (f .queue .codes) (from 12) in
       let pairs = part-read (run pair 5) (s .capabilities .pairs) _ _ (f .capabilities .pairs) (from 13) in
       let cr0 = part-read fixed (s .capabilities .cr0) _ _ (f .capabilities .cr0) (from 14) in
@@ -124,7 +123,6 @@ module _ (s : Session) (f : Fitting s) where
         le-leb _ _ (l .held),
         waiting,
         le-leb _ _ (l .waiting),
-        flags-written 64 (s .queue .coded) _ _ (f .queue .coded) (from 11),
       )
 
 -- ---- the session of a record
@@ -160,7 +158,7 @@ module _ (b : List ℕ) (whole : length b ≡ Record.LENGTH) (bytes : Below 256 
         queue = record {
           waiting = part-fits (number 1) Record.WAITING (lit≤ tt);
           vectors = part-fits (numbers-codec 1 64) Record.VECTORS (lit≤ tt);
-          coded = part-fits (flags 64) Record.CODED (lit≤ tt);
+          coded = part-fits (number 8) Record.CODED (lit≤ tt);
           codes = part-fits (numbers-codec 4 64) Record.CODES (lit≤ tt);
         };
         capabilities = record {
@@ -180,16 +178,16 @@ module _ (b : List ℕ) (whole : length b ≡ Record.LENGTH) (bytes : Below 256 
       ∷ part-written yes-no Record.LAUNCHED (lit≤ tt) (t .launched) i
       ∷ part-written (number 4) Record.ENTRIES (lit≤ tt) tt i
       ∷ part-written (number 4) Record.HELD (lit≤ tt) tt i
-      ∷ (ap (flatMap (bytesOf 8)) (registers-read (drop Record.REGS b)) ∙ part-written (numbers-codec 8 16) Record.REGS (lit≤ tt) (λ j h. tt)) i
-      ∷ part-written (numbers-codec 2 17) Record.W16 (lit≤ tt) (λ j h. tt) i
-      ∷ part-written (numbers-codec 4 50) Record.W32 (lit≤ tt) (λ j h. tt) i
-      ∷ part-written (numbers-codec 8 41) Record.W64 (lit≤ tt) (λ j h. tt) i
-      ∷ part-written (numbers-codec 8 46) Record.NATURAL (lit≤ tt) (λ j h. tt) i
+      ∷ (ap (flatMap (bytesOf 8)) (registers-read (drop Record.REGS b)) ∙ part-written (numbers-codec 8 16) Record.REGS (lit≤ tt) tt) i
+      ∷ part-written (numbers-codec 2 17) Record.W16 (lit≤ tt) tt i
+      ∷ part-written (numbers-codec 4 50) Record.W32 (lit≤ tt) tt i
+      ∷ part-written (numbers-codec 8 41) Record.W64 (lit≤ tt) tt i
+      ∷ part-written (numbers-codec 8 46) Record.NATURAL (lit≤ tt) tt i
       ∷ part-written (number 1) Record.WAITING (lit≤ tt) tt i
-      ∷ part-written (numbers-codec 1 64) Record.VECTORS (lit≤ tt) (λ j h. tt) i
-      ∷ part-written (flags 64) Record.CODED (lit≤ tt) (λ j h. rw mul-one (each-flag 64 (drop Record.CODED b) (t .coded) j h)) i
-      ∷ part-written (numbers-codec 4 64) Record.CODES (lit≤ tt) (λ j h. tt) i
-      ∷ part-written (run pair 5) Record.PAIRS (lit≤ tt) (λ j h. tt) i
+      ∷ part-written (numbers-codec 1 64) Record.VECTORS (lit≤ tt) tt i
+      ∷ part-written (number 8) Record.CODED (lit≤ tt) tt i
+      ∷ part-written (numbers-codec 4 64) Record.CODES (lit≤ tt) tt i
+      ∷ part-written (run pair 5) Record.PAIRS (lit≤ tt) tt i
       ∷ part-written fixed Record.CR0 (lit≤ tt) tt i
       ∷ part-written fixed Record.CR4 (lit≤ tt) tt i
       ∷ [] in
@@ -248,7 +246,7 @@ unfolding sessionOf newSession readAll flagOf numberOf pairOf fixedOf
 new-session = refl
 
 zeros-accepted : acceptedOf zeros ≡ true
-unfolding acceptedOf flagsValid numberOf
+unfolding acceptedOf numberOf
 zeros-accepted = refl
 
 new-record : encodeOf newSession ≡ zeros

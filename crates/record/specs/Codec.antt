@@ -17,7 +17,7 @@ use Rattle.vcpu_session.specs.declared.Capabilities.{Capabilities}
 use Rattle.vcpu_session.specs.declared.Session.{Session}
 use Rattle.vcpu_session.specs.Session.{newSession, withVmcs}
 use Rattle.record.specs.declared.Decoded.{Decoded}
-use Rattle.record.specs.Runs.{readAll, numbers, numberBytes, flagOf, flagBytes, flagsValid}
+use Rattle.record.specs.Runs.{readAll, numbers, numberBytes, flagOf, flagBytes}
 use Rattle.record.specs.Record as Record
 
 -- ---- a pair of a control word, and the fixed bits of a control register
@@ -55,7 +55,7 @@ sessionOf b =
       queue = record {
         waiting = littleEndian 1 (drop Record.WAITING b);
         vectors = numbers 1 64 (drop Record.VECTORS b);
-        coded = readAll 1 flagOf 64 (drop Record.CODED b);
+        coded = littleEndian 8 (drop Record.CODED b);
         codes = numbers 4 64 (drop Record.CODES b);
       };
       capabilities = record {
@@ -81,7 +81,7 @@ abbrev pub vmcsParts : Vmcs → List (List ℕ)
 vmcsParts v = numberBytes 2 (v .w16) ∷ numberBytes 4 (v .w32) ∷ numberBytes 8 (v .w64) ∷ numberBytes 8 (v .natural) ∷ []
 
 abbrev pub queueParts : Queue → List (List ℕ)
-queueParts q = bytesOf 1 (q .waiting) ∷ numberBytes 1 (q .vectors) ∷ flatMap flagBytes (q .coded) ∷ numberBytes 4 (q .codes) ∷ []
+queueParts q = bytesOf 1 (q .waiting) ∷ numberBytes 1 (q .vectors) ∷ bytesOf 8 (q .coded) ∷ numberBytes 4 (q .codes) ∷ []
 
 abbrev pub capabilityParts : Capabilities → List (List ℕ)
 capabilityParts c = flatMap pairBytes (c .pairs) ∷ fixedBytes (c .cr0) ∷ fixedBytes (c .cr4) ∷ []
@@ -96,7 +96,7 @@ encodeOf s = flatten (partsOf s)
 
 -- ---- which bytes are a record
 
--- 2 is its negation: a wrong length, a phase above 4, a yes/no byte other than 0 and 1, more held entries than entries, or more than 64 events
+-- 2 is its negation: a wrong length, a phase above 4, a launched byte other than 0 and 1, more held entries than entries, or more than 64 events
 unfoldable pub acceptedOf : List ℕ → Bool
 acceptedOf b =
     eqb (length b) Record.LENGTH
@@ -104,7 +104,6 @@ acceptedOf b =
     && leb (littleEndian 1 (drop Record.LAUNCHED b)) 1
     && leb (littleEndian 4 (drop Record.HELD b)) (littleEndian 4 (drop Record.ENTRIES b))
     && leb (littleEndian 1 (drop Record.WAITING b)) 64
-    && flagsValid 64 (drop Record.CODED b)
 
 abbrev pub decoded : ℕ → Session → Decoded
 decoded n s = record { refusal = n; session = s }

@@ -1,7 +1,5 @@
 -- The numbers of a session fit their types, and its arrays have their lengths: this holds of every session in code, and `put_session` says
 -- so of the session that it stores. Assumes nothing.
-use mathlib.Core.Path.{_≡_}
-use lib.ListN.{length}
 use Rattle.regs.specs.Registers.{listOf}
 use Rattle.vmcs.specs.declared.Vmcs.{Vmcs}
 use Rattle.vmcs.specs.declared.controls.Pair.{Pair}
@@ -26,7 +24,7 @@ pub record VmcsFits (v : Vmcs) : Type 0 where
 pub record QueueFits (q : Queue) : Type 0 where
   pub waiting : Takes 1 (q .waiting)
   pub vectors : Numbers 64 1 (q .vectors)
-  pub coded : length (q .coded) ≡ 64
+  pub coded : Takes 8 (q .coded)
   pub codes : Numbers 64 4 (q .codes)
 
 abbrev pub PairFits : Pair → Type 0

@@ -3,7 +3,7 @@
 use Prim.Native.Nat.{ℕ}
 
 abbrev pub LENGTH : ℕ
-LENGTH = 1525
+LENGTH = 1469
 
 -- ---- where the session stands: the phase (1 byte), whether it was launched (1), its entries (4), those that held an event (4)
 
@@ -38,7 +38,7 @@ W64 = 372
 abbrev pub NATURAL : ℕ
 NATURAL = 700
 
--- ---- the queue: how many events wait (1), their vectors (64), whether each has an error code (64), the codes (64 of 4)
+-- ---- the queue: how many events wait (1), their vectors (64), whether each has an error code (8, bit i for place i), the codes (64 of 4)
 
 abbrev pub WAITING : ℕ
 WAITING = 1068
@@ -50,15 +50,15 @@ abbrev pub CODED : ℕ
 CODED = 1133
 
 abbrev pub CODES : ℕ
-CODES = 1197
+CODES = 1141
 
 -- ---- the capabilities: the five pairs (allowed-0, 4, and allowed-1, 4), and the fixed bits of CR0 and of CR4 (fixed-0, 8, and fixed-1, 8)
 
 abbrev pub PAIRS : ℕ
-PAIRS = 1453
+PAIRS = 1397
 
 abbrev pub CR0 : ℕ
-CR0 = 1493
+CR0 = 1437
 
 abbrev pub CR4 : ℕ
-CR4 = 1509
+CR4 = 1453

@@ -1,11 +1,11 @@
 -- Runs of values in a list of bytes, each of one size. The bytes of a run are `flatMap write vs` of mathlib.Core.List. Assumes nothing.
 use mathlib.Core.Path.{_≡_}
-use mathlib.Core.Bool.{Bool, true, _&&_}
+use mathlib.Core.Bool.{Bool}
 use mathlib.Core.List.{List, [], _∷_, flatMap}
 use Prim.Native.Nat.{ℕ, zero, suc, _^_, _<_}
 use lib.ListN.{length, drop}
 use lib.Seq.{sets}
-use lib.Dec.{eqb, leb}
+use lib.Dec.{eqb}
 use Rattle.bits.specs.Words.{flag}
 use Rattle.bits.specs.LittleEndian.{littleEndian, bytesOf, Below}
 
@@ -55,8 +55,3 @@ flagOf bs = eqb (littleEndian 1 bs) 1
 
 unfoldable pub flagBytes : Bool → List ℕ
 flagBytes on = bytesOf 1 (flag on)
-
--- each of the first n bytes is 0 or 1
-unfoldable pub flagsValid : ℕ → List ℕ → Bool
-flagsValid zero bs = true
-flagsValid (suc n) bs = flagsValid n bs && leb (littleEndian 1 (drop n bs)) 1

@@ -27,7 +27,7 @@ use vmcs::controls::Pair;
 pub struct Record {}
 
 impl Record {
-    pub const LENGTH: usize = 1525;
+    pub const LENGTH: usize = 1469;
 
     // 1 byte, 0 to 4.
     pub const PHASE: usize = 0;
@@ -62,20 +62,20 @@ impl Record {
     // 64 of 1 byte, the front first.
     pub const VECTORS: usize = 1069;
 
-    // 64 yes/no bytes: whether each event has an error code.
+    // Whether each event has an error code: 8 bytes, bit i for place i.
     pub const CODED: usize = 1133;
 
     // 64 of 4 bytes.
-    pub const CODES: usize = 1197;
+    pub const CODES: usize = 1141;
 
     // The pairs of the control words, in the order pin, primary, secondary, exit, entry: 5 of allowed-0 (4 bytes) and allowed-1 (4 bytes).
-    pub const PAIRS: usize = 1453;
+    pub const PAIRS: usize = 1397;
 
     // Fixed-0 and fixed-1 of CR0, 8 bytes each.
-    pub const CR0: usize = 1493;
+    pub const CR0: usize = 1437;
 
     // Fixed-0 and fixed-1 of CR4, 8 bytes each.
-    pub const CR4: usize = 1509;
+    pub const CR4: usize = 1453;
 }
 
 // The session of a record, or a new one beside the number of the refusal.
@@ -98,8 +98,7 @@ pub fn accepts(b: &[u8]) -> bool
     let entries = words::get4(b, Record::ENTRIES);
     let held = words::get4(b, Record::HELD);
     let waiting = words::get1(b, Record::WAITING);
-    let coded = words::flags_valid(b, Record::CODED);
-    (phase <= 4) & (launched <= 1) & (held <= entries) & (waiting <= 64) & coded
+    (phase <= 4) & (launched <= 1) & (held <= entries) & (waiting <= 64)
 }
 
 // ---- Reading a record of the right length.
@@ -128,6 +127,14 @@ pub fn waiting_at(b: &[u8]) -> u8
     ensures { λ r. ⌜ r ≡ sessionOf (now (b .entry)) .queue .waiting ⌝ }
 {
     words::get1(b, Record::WAITING)
+}
+
+// Whether each event has an error code, bit i for place i.
+pub fn coded_at(b: &[u8]) -> u64
+    requires { ⌜ length (now b) ≡ LENGTH ⌝ }
+    ensures { λ r. ⌜ r ≡ sessionOf (now (b .entry)) .queue .coded ⌝ }
+{
+    words::get8(b, Record::CODED)
 }
 
 fn regs_at(b: &[u8]) -> GeneralRegisters
@@ -165,14 +172,12 @@ fn queue_at(b: &[u8]) -> Queue
 {
     let mut vectors = [0u8; 64];
     words::get_all1(&mut vectors, b, Record::VECTORS);
-    let mut coded = [false; 64];
-    words::get_flags(&mut coded, b, Record::CODED);
     let mut codes = [0u32; 64];
     words::get_all4(&mut codes, b, Record::CODES);
     Queue {
         waiting: words::get1(b, Record::WAITING),
         vectors: vectors,
-        coded: coded,
+        coded: coded_at(b),
         codes: codes,
     }
 }
@@ -359,8 +364,7 @@ fn put_queue(b: &mut [u8], q: Queue)
     words::put1(b, Record::WAITING, q.waiting);
     let vectors = q.vectors;
     words::put_all1(b, Record::VECTORS, &vectors);
-    let coded = q.coded;
-    words::put_flags(b, Record::CODED, &coded);
+    words::put8(b, Record::CODED, q.coded);
     let codes = q.codes;
     words::put_all4(b, Record::CODES, &codes);
 }

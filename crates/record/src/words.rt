@@ -1,14 +1,11 @@
-// Numbers of 1, 2, 4 and 8 bytes, least significant first, and yes/no bytes, in a slice of bytes: one of them, and runs of them.
+// Numbers of 1, 2, 4 and 8 bytes, least significant first, and yes/no bytes, in a slice of bytes: one of them, and runs of numbers.
 ghost use mathlib.Core.Path.{_≡_};
-ghost use mathlib.Core.Bool.{_&&_};
-ghost use mathlib.Core.List.{flatMap};
 ghost use Prim.Native.Nat.{_+_, _*_, _≤_};
 ghost use lib.ListN.{length, drop};
 ghost use lib.Seq.{sets};
-ghost use lib.Dec.{leb};
 ghost use Rattle.bits.specs.Words.{flag};
 ghost use Rattle.bits.specs.LittleEndian.{littleEndian, bytesOf};
-ghost use Rattle.record.specs.Runs.{readAll, numbers, numberBytes, flagOf, flagBytes, flagsValid};
+ghost use Rattle.record.specs.Runs.{numbers, numberBytes, flagOf, flagBytes};
 
 // ---- One number.
 
@@ -183,9 +180,8 @@ pub fn put_all8(b: &mut [u8], at: usize, vs: &[u64])
     }
 }
 
-// ---- Yes/no bytes.
+// ---- Yes/no bytes: 1 is yes, 0 is no.
 
-// A yes/no byte.
 fn flag_byte(on: bool) -> u8
     ensures { λ r. ⌜ r ≡ flag on ⌝ }
 {
@@ -204,53 +200,4 @@ pub fn put_flag(b: &mut [u8], at: usize, on: bool)
     ensures { λ _. ⌜ now (b .exit) ≡ sets (now (b .entry)) at (flagBytes on) ⌝ }
 {
     put1(b, at, flag_byte(on));
-}
-
-pub fn get_flags(out: &mut [bool], b: &[u8], at: usize)
-    requires { ⌜ at + length (now out) * 1 ≤ length (now b) ⌝ }
-    ensures { λ _. ⌜ now (out .exit) ≡ readAll 1 flagOf (length (now (out .entry))) (drop at (now (b .entry))) ⌝ }
-{
-    let mut i = 0;
-    let mut from = at;
-    while i < out.len() {
-        out[i] = get_flag(b, from);
-        from += 1;
-        i += 1;
-    }
-}
-
-pub fn put_flags(b: &mut [u8], at: usize, vs: &[bool])
-    requires { ⌜ at + length (now vs) * 1 ≤ length (now b) ⌝ }
-    ensures { λ _. ⌜ now (b .exit) ≡ sets (now (b .entry)) at (flatMap flagBytes (now (vs .entry))) ⌝ }
-{
-    let mut i = 0;
-    let mut to = at;
-    while i < vs.len() {
-        put_flag(b, to, vs[i]);
-        to += 1;
-        i += 1;
-    }
-}
-
-// The greater of two bytes: at most 1 exactly when both are.
-fn greater(x: u8, y: u8) -> u8
-    ensures { λ r. ⌜ leb r 1 ≡ (leb x 1 && leb y 1) ⌝ }
-{
-    if x < y { y } else { x }
-}
-
-// Whether each of the 64 bytes from `at` on is 0 or 1. All are read and one test is made, which is quicker than a test for each.
-pub fn flags_valid(b: &[u8], at: usize) -> bool
-    requires { ⌜ at + 64 ≤ length (now b) ⌝ }
-    ensures { λ r. ⌜ r ≡ flagsValid 64 (drop at (now (b .entry))) ⌝ }
-{
-    let mut most: u8 = 0;
-    let mut i: usize = 0;
-    let mut from = at;
-    while i < 64 {
-        most = greater(most, get1(b, from));
-        from += 1;
-        i += 1;
-    }
-    most <= 1
 }

@@ -1,16 +1,16 @@
 -- One part of a record's session changed in place. Assumes nothing.
 use mathlib.Core.Path.{_≡_, refl, sym, ap, _∙_}
-use mathlib.Core.Bool.{Bool, true, false, cond}
-use mathlib.Core.List.{List, [], _∷_, _++_}
-use Prim.Native.Nat.{ℕ, zero, suc, _+_, _-_, _*_, _^_, _≤_, _<_}
+use mathlib.Core.Bool.{Bool, true, cond}
+use mathlib.Core.List.{List}
+use Prim.Native.Nat.{ℕ, _+_, _-_, _*_, _/_, _^_, _≤_, _<_}
 use native.Mathlib.Nat.{mul-one}
 use native.Mathlib.Omega.{arith}
-use lib.ListN.{length, getD, take, drop, set, length-set, length-append}
-use lib.Seq.{sets, drop-cons, drop-length}
+use lib.ListN.{length, getD, take, drop, set}
+use lib.Seq.{sets}
 use lib.Dec.{lit<}
 use mir.Syntax.{w8}
 use mir.Val.{Fits}
-use Rattle.bits.specs.Words.{flag}
+use Rattle.bits.specs.Words.{withBit}
 use Rattle.bits.specs.LittleEndian.{bytesOf, Below}
 use Rattle.bits.proofs.LittleEndianLaws.{length-bytesOf}
 use Rattle.regs.specs.Registers.{listOf, ofList, withReg}
@@ -27,10 +27,11 @@ use Rattle.record.specs.Record as Record
 use Rattle.record.specs.Runs.{Takes, Numbers, numberBytes, flagBytes}
 use Rattle.record.specs.Codec.{sessionOf, withField, encodeOf, acceptedOf}
 use Rattle.record.specs.Fitting.{ProgressFits, VmcsFits, QueueFits, Fitting}
+use Rattle.record.proofs.Flags.{length-flagBytes}
 use Rattle.record.proofs.Accepted.{whole}
 use Rattle.record.proofs.RoundTrip.{lawful-accepted, session-read, session-fits, session-lawful, record-written}
 use Rattle.record_edits.specs.Holds.{Holds}
-use Rattle.record_edits.proofs.Fits.{numbers-set, length-shifted, numbers-shifted, listed, put-fits}
+use Rattle.record_edits.proofs.Fits.{numbers-set, numbers-shifted, listed, put-fits}
 use Rattle.record_edits.proofs.Parts.{Form, length-run, Spells, value-put, element-put, run-shifted}
 
 -- ---- the bytes of a session
@@ -54,7 +55,7 @@ withWaiting q x = record { waiting = x; vectors = q .vectors; coded = q .coded; 
 abbrev withVectors : Queue → List ℕ → Queue
 withVectors q x = record { waiting = q .waiting; vectors = x; coded = q .coded; codes = q .codes }
 
-abbrev withCoded : Queue → List Bool → Queue
+abbrev withCoded : Queue → ℕ → Queue
 withCoded q x = record { waiting = q .waiting; vectors = q .vectors; coded = x; codes = q .codes }
 
 abbrev withCodes : Queue → List ℕ → Queue
@@ -100,10 +101,6 @@ bytes (Natural k) = 8
 
 abbrev number : ℕ → Form ℕ
 number k = record { size = k; write = bytesOf k; each = length-bytesOf k }
-
-length-flagBytes : (on : Bool) → length (flagBytes on) ≡ 1
-unfolding flagBytes
-length-flagBytes on = length-bytesOf 1 (flag on)
 
 abbrev yes-no : Form Bool
 yes-no = record { size = 1; write = flagBytes; each = length-flagBytes }
@@ -177,7 +174,7 @@ module _ {b : List ℕ} {s : Session} (h : Spells b s) where
         bytes = value-put h 3 (lit< tt) (number 4) (s .progress .held) x refl e;
       }
 
-  -- the queue: how many wait, value i of a part, and a part moved down by one
+  -- the queue: how many wait, which have a code, value i of a part, and a part moved down by one
   with-waiting : {after : List ℕ} (x : ℕ) → Takes 1 x → after ≡ sets b Record.WAITING (bytesOf 1 x) → Spells after (withQueue s (withWaiting (s .queue) x))
   unfolding encodeOf
   with-waiting x small e =
@@ -188,9 +185,6 @@ module _ {b : List ℕ} {s : Session} (h : Spells b s) where
 
   vectors-fit : (vs : List ℕ) → Numbers 64 1 vs → Fitting (withQueue s (withVectors (s .queue) vs))
   vectors-fit vs f = queue-fits (h .fits) (record { waiting = h .fits .queue .waiting; vectors = f; coded = h .fits .queue .coded; codes = h .fits .queue .codes })
-
-  coded-fit : (vs : List Bool) → length vs ≡ 64 → Fitting (withQueue s (withCoded (s .queue) vs))
-  coded-fit vs f = queue-fits (h .fits) (record { waiting = h .fits .queue .waiting; vectors = h .fits .queue .vectors; coded = f; codes = h .fits .queue .codes })
 
   codes-fit : (vs : List ℕ) → Numbers 64 4 vs → Fitting (withQueue s (withCodes (s .queue) vs))
   codes-fit vs f = queue-fits (h .fits) (record { waiting = h .fits .queue .waiting; vectors = h .fits .queue .vectors; coded = h .fits .queue .coded; codes = f })
@@ -204,13 +198,12 @@ module _ {b : List ℕ} {s : Session} (h : Spells b s) where
         bytes = element-put h 10 (lit< tt) (number 1) (s .queue .vectors) refl i x (rw (h .fits .queue .vectors .sized) known) (rw mul-one e);
       }
 
-  with-coded : {after : List ℕ} (i : ℕ) (on : Bool) → i < 64 → after ≡ sets b (Record.CODED + i) (flagBytes on)
-      → Spells after (withQueue s (withCoded (s .queue) (set (s .queue .coded) i on)))
+  with-coded : {after : List ℕ} (x : ℕ) → Takes 8 x → after ≡ sets b Record.CODED (bytesOf 8 x) → Spells after (withQueue s (withCoded (s .queue) x))
   unfolding encodeOf
-  with-coded i on known e =
+  with-coded x small e =
       record {
-        fits = coded-fit (set (s .queue .coded) i on) (length-set (s .queue .coded) i on ∙ h .fits .queue .coded);
-        bytes = element-put h 11 (lit< tt) yes-no (s .queue .coded) refl i on (rw (h .fits .queue .coded) known) (rw mul-one e);
+        fits = queue-fits (h .fits) (record { waiting = h .fits .queue .waiting; vectors = h .fits .queue .vectors; coded = small; codes = h .fits .queue .codes });
+        bytes = value-put h 11 (lit< tt) (number 8) (s .queue .coded) x refl e;
       }
 
   with-code : {after : List ℕ} (i x : ℕ) → i < 64 → Takes 4 x → after ≡ sets b (Record.CODES + i * 4) (bytesOf 4 x)
@@ -228,14 +221,6 @@ module _ {b : List ℕ} {s : Session} (h : Spells b s) where
       record {
         fits = vectors-fit (shifted 0 (s .queue .vectors)) (numbers-shifted 0 (h .fits .queue .vectors) (lit< tt));
         bytes = run-shifted h 10 (lit< tt) (number 1) (s .queue .vectors) refl 63 0 (h .fits .queue .vectors .sized) e;
-      }
-
-  coded-down : {after : List ℕ} → after ≡ down b Record.CODED 1 63 (flagBytes false) → Spells after (withQueue s (withCoded (s .queue) (shifted false (s .queue .coded))))
-  unfolding encodeOf
-  coded-down e =
-      record {
-        fits = coded-fit (shifted false (s .queue .coded)) (length-shifted false (s .queue .coded) (h .fits .queue .coded));
-        bytes = run-shifted h 11 (lit< tt) yes-no (s .queue .coded) refl 63 false (h .fits .queue .coded) e;
       }
 
   codes-down : {after : List ℕ} → after ≡ down b Record.CODES 4 252 (bytesOf 4 0) → Spells after (withQueue s (withCodes (s .queue) (shifted 0 (s .queue .codes))))
@@ -280,23 +265,25 @@ module _ (b : List ℕ) (ok : acceptedOf b ≡ true) (known : (i : ℕ) → Fits
       let two = with-launched (with-phase own (p .phase) (f .phase) e₁) (p .launched) e₂ in
       held (with-held (with-entries two (p .entries) (f .entries) e₃) (p .held) (f .held) e₄) phase (lawful .waiting) counts
 
-  -- n events wait, and `code` is the one that is stored
-  pub push-held : {n code : ℕ} {b₁ b₂ b₃ b₄ : List ℕ} (e : Event) → n ≡ sessionOf b .queue .waiting → code ≡ cond (e .coded) (e .code) 0
-      → n < 64 → Takes 1 (e .vector) → Takes 4 code
-      → b₁ ≡ sets b (Record.VECTORS + n) (bytesOf 1 (e .vector)) → b₂ ≡ sets b₁ (Record.CODED + n) (flagBytes (e .coded))
+  -- n events wait, `code` is the one that is stored, and `word` says which events have one
+  pub push-held : {n code word : ℕ} {b₁ b₂ b₃ b₄ : List ℕ} (e : Event) → n ≡ sessionOf b .queue .waiting → code ≡ cond (e .coded) (e .code) 0
+      → word ≡ withBit n (e .coded) (sessionOf b .queue .coded)
+      → n < 64 → Takes 1 (e .vector) → Takes 4 code → Takes 8 word
+      → b₁ ≡ sets b (Record.VECTORS + n) (bytesOf 1 (e .vector)) → b₂ ≡ sets b₁ Record.CODED (bytesOf 8 word)
       → b₃ ≡ sets b₂ (Record.CODES + n * 4) (bytesOf 4 code) → b₄ ≡ sets b₃ Record.WAITING (bytesOf 1 (n + 1))
       → Holds b₄ (withQueue (sessionOf b) (pushed (sessionOf b .queue) e))
   unfolding pushed
-  push-held {n} {code} e read stored room vector small e₁ e₂ e₃ e₄ =
-      let two = with-coded (with-vector own n (e .vector) room vector e₁) n (e .coded) room e₂ in
-      rw (← read, ← stored) (held (with-waiting (with-code two n code room small e₃) (n + 1) (omega arith) e₄) (lawful .phase) (omega arith) (lawful .held))
+  push-held {n} {code} {word} e read stored marked room vector small fits e₁ e₂ e₃ e₄ =
+      let two = with-coded (with-vector own n (e .vector) room vector e₁) word fits e₂ in
+      rw (← read, ← stored, ← marked) (held (with-waiting (with-code two n code room small e₃) (n + 1) (omega arith) e₄) (lawful .phase) (omega arith) (lawful .held))
 
-  -- n events wait after it
-  pub pop-held : {n : ℕ} {b₁ b₂ b₃ b₄ : List ℕ} → n ≡ sessionOf b .queue .waiting - 1
+  -- n events wait after it, and `word` says which of them have a code
+  pub pop-held : {n word : ℕ} {b₁ b₂ b₃ b₄ : List ℕ} → n ≡ sessionOf b .queue .waiting - 1 → word ≡ sessionOf b .queue .coded / 2
       → b₁ ≡ sets b Record.WAITING (bytesOf 1 n) → b₂ ≡ down b₁ Record.VECTORS 1 63 (bytesOf 1 0)
-      → b₃ ≡ down b₂ Record.CODED 1 63 (flagBytes false) → b₄ ≡ down b₃ Record.CODES 4 252 (bytesOf 4 0)
+      → b₃ ≡ sets b₂ Record.CODED (bytesOf 8 word) → b₄ ≡ down b₃ Record.CODES 4 252 (bytesOf 4 0)
       → Holds b₄ (withQueue (sessionOf b) (popped (sessionOf b .queue)))
   unfolding popped
-  pop-held {n} less e₁ e₂ e₃ e₄ =
+  pop-held {n} {word} less halved e₁ e₂ e₃ e₄ =
       let few : n ≤ 64 = omega (arith, lawful .waiting) in
-      rw (← less) (held (codes-down (coded-down (vectors-down (with-waiting own n (omega arith) e₁) e₂) e₃) e₄) (lawful .phase) few (lawful .held))
+      let small : Takes 8 word = omega (arith, own .fits .queue .coded) in
+      rw (← less, ← halved) (held (codes-down (with-coded (vectors-down (with-waiting own n (omega arith) e₁) e₂) word small e₃) e₄) (lawful .phase) few (lawful .held))

@@ -35,7 +35,7 @@ below-shifted m (v ∷ l) x b h j = last l (λ n. b (suc n)) j
     last (u ∷ us) d zero = d 0
     last (u ∷ us) d (suc i) = last us (λ n. d (suc n)) i
 
-pub length-shifted : {A : Type 0} (x : A) (vs : List A) {n : ℕ} → length vs ≡ suc n → length (shifted x vs) ≡ suc n
+length-shifted : (x : ℕ) (vs : List ℕ) {n : ℕ} → length vs ≡ suc n → length (shifted x vs) ≡ suc n
 unfolding shifted
 length-shifted x [] e = absurd (omega arith)
 length-shifted x (v ∷ vs) e = rw (length-append vs (x ∷ [])) (omega arith)

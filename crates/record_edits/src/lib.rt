@@ -113,8 +113,9 @@ pub fn push_back(b: &mut [u8], e: Event)
     let waiting = record::waiting_at(b);
     let at = waiting as usize;
     let code = vcpu_events::stored_code(e);
+    let coded = vcpu_events::with_coded(record::coded_at(b), waiting, e.coded);
     words::put1(b, Record::VECTORS + at, e.vector);
-    words::put_flag(b, Record::CODED + at, e.coded);
+    words::put8(b, Record::CODED, coded);
     words::put4(b, Record::CODES + at * 4, code);
     words::put1(b, Record::WAITING, waiting + 1);
 }
@@ -137,11 +138,11 @@ pub fn pop_front(b: &mut [u8])
     ensures { λ _. ⌜ Holds (now (b .exit)) (withQueue (sessionOf (now (b .entry))) (popped (sessionOf (now (b .entry)) .queue))) ⌝ }
 {
     let waiting = record::waiting_at(b);
+    let coded = record::coded_at(b);
     words::put1(b, Record::WAITING, vcpu_events::less_one(waiting));
     move_down(b, Record::VECTORS, 1, 63);
     words::put1(b, Record::VECTORS + 63, 0);
-    move_down(b, Record::CODED, 1, 63);
-    words::put_flag(b, Record::CODED + 63, false);
+    words::put8(b, Record::CODED, coded / 2);
     move_down(b, Record::CODES, 4, 252);
     words::put4(b, Record::CODES + 252, 0);
 }

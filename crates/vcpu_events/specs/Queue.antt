@@ -1,9 +1,10 @@
 -- The queue of events, and queueing one (document 01, "Session" and "The operations and their numbers"). Assumes nothing.
-use Prim.Native.Nat.{ℕ, _+_, _-_}
+use Prim.Native.Nat.{ℕ, _+_, _-_, _/_}
 use mathlib.Core.Bool.{Bool, false, cond}
 use mathlib.Core.List.{List, [], _∷_, _++_}
 use lib.Dec.{eqb, leb, ltb}
 use lib.ListN.{getD, set, drop}
+use Rattle.bits.specs.Words.{bit, withBit}
 use Rattle.vcpu_session.specs.Phase as Phase
 use Rattle.vcpu_session.specs.Session.{isUnlawful, withQueue}
 use Rattle.vcpu_session.specs.declared.Queue.{Queue}
@@ -13,7 +14,7 @@ use Rattle.vcpu_events.specs.declared.Answered.{Answered}
 
 -- the front of the queue
 abbrev pub frontOf : Queue → Event
-frontOf q = record { vector = getD (q .vectors) 0 0; coded = getD (q .coded) 0 false; code = getD (q .codes) 0 0 }
+frontOf q = record { vector = getD (q .vectors) 0 0; coded = bit 0 (q .coded); code = getD (q .codes) 0 0 }
 
 -- a list without its first element, the others moved down, and x in the place that is freed
 unfoldable pub shifted : {A : Type 0} → A → List A → List A
@@ -25,7 +26,7 @@ popped q =
     record {
       waiting = q .waiting - 1;
       vectors = shifted 0 (q .vectors);
-      coded = shifted false (q .coded);
+      coded = q .coded / 2;
       codes = shifted 0 (q .codes);
     }
 
@@ -35,7 +36,7 @@ pushed q e =
     record {
       waiting = q .waiting + 1;
       vectors = set (q .vectors) (q .waiting) (e .vector);
-      coded = set (q .coded) (q .waiting) (e .coded);
+      coded = withBit (q .waiting) (e .coded) (q .coded);
       codes = set (q .codes) (q .waiting) (cond (e .coded) (e .code) 0);
     }
 

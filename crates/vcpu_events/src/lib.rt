@@ -3,9 +3,10 @@
 // holds 64 events; what the Rust panics at is refused by a number; the entry itself is the host's.
 ghost use mathlib.Core.Path.{_≡_};
 ghost use Prim.Native.Nat.{_<_, _≤_, _-_, _^_};
+ghost use Rattle.bits.specs.Words.{withBit};
 ghost use Rattle.vcpu_events.specs.Queue.{frontOf, shifted, popped, pushed, queueEvent, injectInterrupt};
 ghost use Rattle.vcpu_events.specs.Entry.{isHeld, injectionOf, codeOf, withCode, withLength, injected, withStack, windowSet, vmcsAfter, progressAfter, queueAfter, afterEntry, entry};
-ghost use mathlib.Core.Bool.{false, cond};
+ghost use mathlib.Core.Bool.{cond};
 use definitions::VmxInterruptionType;
 use vcpu_session::Phase;
 use vcpu_session::Progress;
@@ -62,19 +63,6 @@ fn shift_vectors(l: [u8; 64]) -> [u8; 64]
     m
 }
 
-fn shift_coded(l: [bool; 64]) -> [bool; 64]
-    ensures { λ r. ⌜ r ≡ shifted false l ⌝ }
-{
-    let mut m = l;
-    let mut i: usize = 0;
-    while i < 63 {
-        m[i] = l[i + 1];
-        i += 1;
-    }
-    m[63] = false;
-    m
-}
-
 fn shift_codes(l: [u32; 64]) -> [u32; 64]
     ensures { λ r. ⌜ r ≡ shifted 0 l ⌝ }
 {
@@ -100,12 +88,11 @@ fn pop_front(q: Queue) -> Queue
     ensures { λ r. ⌜ r ≡ popped q ⌝ }
 {
     let vectors = q.vectors;
-    let coded = q.coded;
     let codes = q.codes;
     Queue {
         waiting: less_one(q.waiting),
         vectors: shift_vectors(vectors),
-        coded: shift_coded(coded),
+        coded: q.coded / 2,
         codes: shift_codes(codes),
     }
 }
@@ -117,15 +104,25 @@ pub fn stored_code(e: Event) -> u32
     if e.coded { e.code } else { 0 }
 }
 
+// Bit `place` of the word made `on`.
+pub fn with_coded(coded: u64, place: u8, on: bool) -> u64
+    requires { ⌜ place < 64 ⌝ }
+    ensures { λ r. ⌜ r ≡ withBit place on coded ⌝ }
+{
+    let one = 1u64 << place;
+    if on { coded | one } else { coded & !one }
+}
+
 fn push_back(q: Queue, e: Event) -> Queue
     requires { ⌜ q .waiting < 64 ⌝ }
     ensures { λ r. ⌜ r ≡ pushed q e ⌝ }
 {
     let at = q.waiting as usize;
     let code = stored_code(e);
+    let coded = with_coded(q.coded, q.waiting, e.coded);
     let mut next = q;
     next.vectors[at] = e.vector;
-    next.coded[at] = e.coded;
+    next.coded = coded;
     next.codes[at] = code;
     next.waiting = q.waiting + 1;
     next
@@ -206,7 +203,7 @@ fn front_of(q: Queue) -> Event
 {
     Event {
         vector: q.vectors[0],
-        coded: q.coded[0],
+        coded: q.coded % 2 == 1,
         code: q.codes[0],
     }
 }

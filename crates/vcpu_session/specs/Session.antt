@@ -29,7 +29,7 @@ newSession =
       progress = record { phase = Phase.FRESH; launched = false; entries = 0; held = 0 };
       regs = ofList (replicate 16 0);
       vmcs = record { w16 = replicate 17 0; w32 = replicate 50 0; w64 = replicate 41 0; natural = replicate 46 0 };
-      queue = record { waiting = 0; vectors = replicate 64 0; coded = replicate 64 false; codes = replicate 64 0 };
+      queue = record { waiting = 0; vectors = replicate 64 0; coded = 0; codes = replicate 64 0 };
       capabilities = record { pairs = replicate 5 noPair; cr0 = noFixed; cr4 = noFixed };
     }
 

@@ -33,12 +33,12 @@ pub struct Progress {
     pub held: u32,
 }
 
-// The waiting events, the front at place 0: how many, their vectors, whether each has an error code, and the codes. Places past the last
-// event are zero in every session that the operations make.
+// The waiting events, the front at place 0: how many, their vectors, whether each has an error code (bit i for place i), and the codes. Places
+// past the last event are zero in every session that the operations make.
 pub struct Queue {
     pub waiting: u8,
     pub vectors: [u8; 64],
-    pub coded: [bool; 64],
+    pub coded: u64,
     pub codes: [u32; 64],
 }
 
@@ -94,7 +94,7 @@ pub fn new() -> Session
         queue: Queue {
             waiting: 0,
             vectors: [0; 64],
-            coded: [false; 64],
+            coded: 0,
             codes: [0; 64],
         },
         capabilities: Capabilities {

@@ -123,12 +123,11 @@ pub fn above(random: &mut Random, most: u8) -> u8 {
 
 /// Makes bytes that are no record, or gives a length that is none.
 pub fn breakage(random: &mut Random, record: &mut [u8]) -> usize {
-    match random.below(6) {
+    match random.below(5) {
         0 => return random.pick(&WRONG_LENGTHS),
         1 => record[record::PHASE] = above(random, 4),
         2 => record[record::LAUNCHED] = above(random, 1),
         3 => record[record::WAITING] = above(random, 64),
-        4 => record[record::CODED + random.below(64) as usize] = above(random, 1),
         _ => {
             let entries = random.word32() % u32::MAX;
             let any = entries + 1 + random.below((u32::MAX - entries) as u64) as u32;

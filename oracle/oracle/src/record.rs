@@ -5,7 +5,7 @@ use crate::calls::QUEUE_ROOM;
 use crate::{Answer, Capabilities, FIELDS, FIELDS_BEFORE_TABLE, Oracle, field_bits};
 use std::sync::LazyLock;
 
-pub const LENGTH: usize = 1525;
+pub const LENGTH: usize = 1469;
 pub const PHASE: usize = 0;
 pub const LAUNCHED: usize = 1;
 pub const ENTRIES: usize = 2;
@@ -14,9 +14,9 @@ pub const REGISTERS: usize = 10;
 const FIELDS_AT: usize = 138;
 pub const WAITING: usize = 1068;
 const VECTORS: usize = 1069;
-pub const CODED: usize = 1133;
-const CODES: usize = 1197;
-pub const KEPT: usize = 1453;
+const CODED: usize = 1133;
+const CODES: usize = 1141;
+pub const KEPT: usize = 1397;
 
 pub const FRESH: u8 = 0;
 pub const READY: u8 = 1;
@@ -92,7 +92,7 @@ pub fn image(oracle: &Oracle, reference: &Reference) -> [u8; LENGTH] {
     record[WAITING] = events.len() as u8;
     for (i, (vector, code)) in events.into_iter().enumerate() {
         record[VECTORS + i] = vector;
-        record[CODED + i] = code.is_some() as u8;
+        record[CODED + i / 8] |= (code.is_some() as u8) << (i % 8);
         put(&mut record, CODES + 4 * i, 4, code.unwrap_or(0) as u64);
     }
     for (i, word) in reference.kept.pairs.into_iter().chain(reference.kept.fixed()).enumerate() {
@@ -103,12 +103,10 @@ pub fn image(oracle: &Oracle, reference: &Reference) -> [u8; LENGTH] {
 
 /// Whether a record is one: document 01's 2 is for all others.
 pub fn lawful(record: &[u8]) -> bool {
-    let yes_no = |byte: u8| byte <= 1;
     record[PHASE] <= ENDED
-        && yes_no(record[LAUNCHED])
+        && record[LAUNCHED] <= 1
         && record[WAITING] as usize <= QUEUE_ROOM
         && number(record, HELD, 4) <= number(record, ENTRIES, 4)
-        && record[CODED..CODES].iter().all(|&byte| yes_no(byte))
 }
 
 /// The part of the record that a byte belongs to: its name, its offset and its bytes.
@@ -129,7 +127,7 @@ fn part(at: usize) -> (String, usize, usize) {
         }
         WAITING => ("waiting events".to_string(), WAITING, 1),
         VECTORS..CODED => indexed("vector", VECTORS, 1),
-        CODED..CODES => indexed("code given", CODED, 1),
+        CODED..CODES => ("codes given".to_string(), CODED, 8),
         CODES..KEPT => indexed("code", CODES, 4),
         _ => indexed("capability word", KEPT, 8),
     }

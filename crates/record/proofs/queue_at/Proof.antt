@@ -13,7 +13,6 @@ queue-at-spec =
     (λ c κs. search needs)
     (λ c. search needs)
     (λ c κs. search needs)
-    (λ c. search needs)
     (λ c κs. search needs)
     (λ c κs. search needs)
-    (λ c. rw (c .before .before .before .before .before .before .before .before .get-all1 .ensures, c .before .before .before .before .before .get-flags .ensures, c .before .before .get-all4 .ensures, c .get1 .ensures)))
+    (λ c. rw (c .before .before .before .before .before .before .get-all1 .ensures, c .before .before .before .get-all4 .ensures, c .before .get1 .ensures, c .coded-at .ensures)))

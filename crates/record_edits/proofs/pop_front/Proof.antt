@@ -1,4 +1,6 @@
 -- `record_edits::pop_front` meets its contract. Assumes nothing.
+use Prim.Native.Nat.{ℕ, _/_}
+use mathlib.Core.Path.{ap}
 use borrow.Author.Needs.{needs}
 use Rattle.record.proofs.Accepted.{whole}
 use Rattle.record_edits.proofs.Edits.{pop-held}
@@ -10,32 +12,32 @@ pops c =
     let codes = c .before .before in
     let codes-down = codes .before .before .before .before in
     let coded = codes-down .before .before .before .before in
-    let coded-down = coded .before .before .before .before in
-    let vectors = coded-down .before .before .before .before in
+    let vectors = coded .before .before .before .before in
     let vectors-down = vectors .before .before .before .before in
     let waiting = vectors-down .before .before .before .before in
-    let w = waiting .before .before .before in
+    let k = waiting .before .before .before in
+    let w = k .before .before in
     let t = w .before .before in
-    pop-held _ (t .before .pre) (t .slice-known .given) (rw (w .waiting-at .ensures) at (waiting .before .less-one .ensures)) (waiting .put1 .ensures)
+    pop-held _ (t .before .pre) (t .slice-known .given) (rw (w .waiting-at .ensures) at (waiting .before .less-one .ensures)) (ap (λ (x : ℕ). x / 2) (k .coded-at .ensures))
+    (waiting .put1 .ensures)
     (rw (vectors-down .move-down .ensures) at (vectors .put12 .ensures))
-    (rw (coded-down .move-down2 .ensures) at (coded .put-flag .ensures))
-    (rw (codes-down .move-down3 .ensures) at (codes .put4 .ensures))
+    (coded .put8 .ensures)
+    (rw (codes-down .move-down2 .ensures) at (codes .put4 .ensures))
 
 pub pop-front-spec : {M : Type 1} → statement M
 pop-front-spec =
     tie.close
     (tie.spec
     (λ c κs. search (whole, needs))
+    (λ c κs. search (whole, needs))
     (λ c κs. search needs)
-    (λ c κs. search (needs, whole _ (c .before .before .before .before .before .pre)))
-    (λ c κs. search (needs, whole _ (c .before .before .before .before .before .before .before .before .before .pre)))
+    (λ c κs. search (needs, whole _ (c .before .before .before .before .before .before .before .pre)))
+    (λ c κs. search (needs, whole _ (c .before .before .before .before .before .before .before .before .before .before .before .pre)))
     (λ c. search needs)
-    (λ c κs. search (needs, whole _ (c .before .before .before .before .before .before .before .before .before .before .before .before .before .pre)))
-    (λ c κs. search (needs, whole _ (c .before .before .before .before .before .before .before .before .before .before .before .before .before .before .before .before .before .pre)))
+    (λ c κs. search (needs, whole _ (c .before .before .before .before .before .before .before .before .before .before .before .before .before .before .before .pre)))
+    (λ c κs. search (needs, whole _ (c .before .before .before .before .before .before .before .before .before .before .before .before .before .before .before .before .before .before .before .pre)))
+    (λ c κs. search (needs, whole _ (c .before .before .before .before .before .before .before .before .before .before .before .before .before .before .before .before .before .before .before .before .before .before .before .pre)))
     (λ c. search needs)
-    (λ c κs. search (needs, whole _ (c .before .before .before .before .before .before .before .before .before .before .before .before .before .before .before .before .before .before .before .before .before .pre)))
-    (λ c κs. search (needs, whole _ (c .before .before .before .before .before .before .before .before .before .before .before .before .before .before .before .before .before .before .before .before .before .before .before .before .before .pre)))
-    (λ c. search needs)
-    (λ c κs. search (needs, whole _ (c .before .before .before .before .before .before .before .before .before .before .before .before .before .before .before .before .before .before .before .before .before .before .before .before .before .before .before .before .before .pre)))
+    (λ c κs. search (needs, whole _ (c .before .before .before .before .before .before .before .before .before .before .before .before .before .before .before .before .before .before .before .before .before .before .before .before .before .before .before .pre)))
     (λ c. search needs)
     pops)

@@ -105,7 +105,7 @@ fn queued(count: u8, vector: u8, entries: u32) -> Session {
     let mut s = vcpu_session::new();
     let mut i: u8 = 0;
     while i < count {
-        let t = vcpu_events::queue_event(s, event(vector));
+        let t = vcpu::queue_event(s, event(vector));
         s = t.session;
         i += 1;
     }
@@ -117,13 +117,13 @@ fn queued(count: u8, vector: u8, entries: u32) -> Session {
 }
 
 fn queue(waiting: u8) {
-    let t = vcpu_events::queue_event(queued(waiting, 32, 0), event(32));
+    let t = vcpu::queue_event(queued(waiting, 32, 0), event(32));
     io::write_all(STDOUT_FILENO, b"event ");
     line(t.refusal as u64);
 }
 
 fn enter(vector: u8) {
-    let e = vcpu_events::enter(queued(1, vector, 0), 0);
+    let e = vcpu::entry(queued(1, vector, 0), 0);
     let injection = e.injection;
     io::write_all(STDOUT_FILENO, b"entry ");
     match injection {
@@ -134,7 +134,7 @@ fn enter(vector: u8) {
 }
 
 fn count(entries: u32) {
-    let e = vcpu_events::enter(queued(0, 0, entries), 0);
+    let e = vcpu::entry(queued(0, 0, entries), 0);
     io::write_all(STDOUT_FILENO, b"count ");
     line(e.refusal as u64);
 }
@@ -180,7 +180,7 @@ fn report(reason: u32, rip: u64) {
             edx: 0,
         },
     };
-    let t = vcpu_report::exit_report(s, r);
+    let t = vcpu::exit_report(s, r);
     io::write_all(STDOUT_FILENO, b"report ");
     line(t.refusal as u64);
 }

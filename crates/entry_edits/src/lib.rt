@@ -52,21 +52,6 @@ pub fn injection_at(b: &[u8]) -> Injection
     Injection::Written
 }
 
-// Why an entry is refused, or 0: 1, not ready; 22, the entry count is at its end. It does not depend on the host's stack.
-pub fn entry_refusal(b: &[u8]) -> u32
-    requires { ⌜ acceptedOf (now b) ≡ true ⌝ }
-    ensures { λ r. ⌜ ((stack : ℕ) → r ≡ entry (sessionOf (now (b .entry))) stack .refusal) ⌝ }
-{
-    let p = record::progress_at(b);
-    if p.phase != Phase::READY {
-        return 1;
-    }
-    if p.entries == 0xFFFF_FFFF {
-        return 22;
-    }
-    0
-}
-
 // ---- Injecting.
 
 // The error code that goes in with an event: the caller's, else the exit's.

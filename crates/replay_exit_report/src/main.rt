@@ -107,7 +107,7 @@ fn changed(state: State, place: u64, value: u64) -> State {
         return t;
     }
     let old = state.session;
-    let written = vcpu_access::write_field(old, place, value);
+    let written = vcpu::write_field(old, place, value);
     let next = written.session;
     t.session = next;
     t
@@ -143,7 +143,7 @@ fn record_digest(s: Session) -> u64 {
 fn answer(state: State) -> Session {
     let numbers = state.numbers;
     let s = running(state);
-    let t = vcpu_report::exit_report(s, report_of(numbers));
+    let t = vcpu::exit_report(s, report_of(numbers));
     let next = t.session;
     if t.refusal != 0 {
         replay::print_refused(t.refusal);

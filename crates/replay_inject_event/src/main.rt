@@ -33,9 +33,9 @@ fn answer(n: [u64; 8]) {
         coded: n[1] == 1,
         code: bits::low(n[2]),
     };
-    let queued = vcpu_events::queue_event(ready(n), event);
+    let queued = vcpu::queue_event(ready(n), event);
     let session = queued.session;
-    let entered = vcpu_events::enter(session, 0);
+    let entered = vcpu::entry(session, 0);
     let words = entered.session.vmcs.w32;
     replay::print_numbers(
         &[

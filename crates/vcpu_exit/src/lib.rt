@@ -160,17 +160,6 @@ pub fn unknown_reason(r: Report) -> bool
     !known | (is_failed(r) & !entry)
 }
 
-// 15: a bit of CR0 or CR4 under its guest/host mask differs from the session's.
-fn owned_bits_differ(v: Vmcs, r: Report) -> bool
-    ensures { λ b. ⌜ b ≡ ownedBitsDiffer v r ⌝ }
-{
-    let mask0 = v.natural[VmcsControlNW::CR0_GUEST_HOST_MASK];
-    let mask4 = v.natural[VmcsControlNW::CR4_GUEST_HOST_MASK];
-    let cr0 = v.natural[VmcsGuestNW::CR0];
-    let cr4 = v.natural[VmcsGuestNW::CR4];
-    (r.cr0 & mask0 != cr0 & mask0) | (r.cr4 & mask4 != cr4 & mask4)
-}
-
 // 16: an external interrupt whose information is not valid, or of the reserved type.
 fn no_interrupt(r: Report) -> bool
     ensures { λ b. ⌜ b ≡ noInterrupt r ⌝ }
@@ -236,28 +225,4 @@ pub fn exit_refusal(pair: Pair, entry: u32, r: Report) -> u32
         return 17;
     }
     efer_refusal(pair, entry, r)
-}
-
-// The refusal of a report, or 0: 2; 1, not running; 14; 15; then those of the exit. A failed entry meets 2, 1 and 14 only.
-pub fn report_refusal(s: Session, r: Report) -> u32
-    ensures { λ n. ⌜ n ≡ reportRefusal s r ⌝ }
-{
-    let v = s.vmcs;
-    let pairs = s.capabilities.pairs;
-    if vcpu_session::is_unlawful(s) {
-        return 2;
-    }
-    if s.progress.phase != Phase::RUNNING {
-        return 1;
-    }
-    if unknown_reason(r) {
-        return 14;
-    }
-    if is_failed(r) {
-        return 0;
-    }
-    if owned_bits_differ(v, r) {
-        return 15;
-    }
-    exit_refusal(pairs[4], v.w32[VmcsControl32::VMENTRY_CONTROLS], r)
 }

@@ -1,9 +1,0 @@
--- `vcpu_handlers::handle_vmx_preemption_timer` meets its contract. Assumes nothing.
-use borrow.Author.Needs.{needs}
-use Rattle.vcpu_handlers.specs.Handlers.{timerSet}
-use Rattle.vcpu_handlers.proofs.handle_vmx_preemption_timer.Statement.{statement}
-use Rattle.vcpu_handlers.proofs.handle_vmx_preemption_timer.Tie as tie
-
-pub handle-vmx-preemption-timer-spec : {M : Type 1} → statement M
-unfolding timerSet
-handle-vmx-preemption-timer-spec = tie.close (tie.spec (λ c. search needs) (λ c. cc))

@@ -25,7 +25,7 @@ use Rattle.vcpu_events.specs.declared.Injection.{Injection}
 use Rattle.vcpu_events.specs.declared.Injection.the-variants.{Empty, Held, Written}
 use Rattle.vcpu_setup.specs.Capability.{capabilitiesOf}
 use Rattle.vcpu_report.specs.Invariant.{judged, AllPermitted}
-use Rattle.setup_block.specs.Block.{msrsOf}
+use Rattle.blocks.specs.SetupBlock.{msrsOf}
 use Rattle.record.specs.Codec.{sessionOf}
 use Rattle.calls.specs.Reference.{types, codes, Call, setup, queueEvent, injectInterrupt, entry, exitReport, apicValue, fieldWrite, registerWrite, WellTyped, AllWellTyped, Event, injectedBy, leftBy, queuedBy, start, Reference, Guarded, validBy, effect, choose, isHeld, answerOn, referenceStep, referenceAnswer, referenceAfter, referenceAnswers, Refuses, rules}
 use Rattle.calls.specs.Calls as Calls

@@ -36,17 +36,17 @@ use Rattle.vcpu_events.specs.declared.Answered.{Answered}
 use Rattle.vcpu_events.specs.declared.Entered.{Entered}
 use Rattle.vcpu_events.specs.declared.Injection.{Injection}
 use Rattle.vcpu_events.specs.declared.Injection.the-variants.{Empty, Held, Written}
-use Rattle.vcpu_access.specs.Access as Access
-use Rattle.vcpu_access.specs.Access.{fieldsWritten, registersWritten, edxEaxSet}
+use Rattle.vcpu_events.specs.Access as Access
+use Rattle.vcpu_events.specs.Access.{fieldsWritten, registersWritten, edxEaxSet}
 use Rattle.vcpu_setup.specs.Capability.{capabilitiesOf}
 use Rattle.vcpu_setup.specs.Setup.{setupRefusal, readied, setupOf}
 use Rattle.vcpu_setup.specs.Writes.{setupWrites}
-use Rattle.setup_block.specs.Block.{argumentsOf}
+use Rattle.blocks.specs.SetupBlock.{argumentsOf}
 use Rattle.record.specs.Runs.{Numbers}
 use Rattle.record.specs.Fitting.{Fitting, VmcsFits, QueueFits}
 use Rattle.vcpu_report.proofs.ReportLaws.{report-laws}
-use Rattle.report_block.specs.Block as Report
-use Rattle.report_block.specs.Block.{reportOf}
+use Rattle.blocks.specs.ReportBlock as Report
+use Rattle.blocks.specs.ReportBlock.{reportOf}
 use Rattle.x86_vcpu.specs.Records.{queueStep}
 use Rattle.x86_vcpu.proofs.SetupCalls.{keeps-setup}
 use Rattle.calls.proofs.Keeps.{keeps-queue-step, keeps-interrupt, keeps-field, keeps-register, keeps-apic, keeps-entry}

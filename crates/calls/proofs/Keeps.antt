@@ -17,7 +17,7 @@ use Rattle.vcpu_events.specs.declared.Entered.{Entered}
 use Rattle.vcpu_events.specs.declared.Injection.{Injection}
 use Rattle.vcpu_events.specs.declared.Injection.the-variants.{Empty, Held, Written}
 use Rattle.vcpu_events.specs.declared.Event.{Event}
-use Rattle.vcpu_access.specs.Access.{writeField, setRegister, apicValue}
+use Rattle.vcpu_events.specs.Access.{writeField, setRegister, apicValue}
 use Rattle.x86_vcpu.specs.Records.{queueStep}
 
 -- a test that refuses, before the rest

@@ -36,21 +36,21 @@ use Rattle.vcpu_events.specs.declared.Answered.{Answered}
 use Rattle.vcpu_events.specs.declared.Entered.{Entered}
 use Rattle.vcpu_events.specs.declared.Injection.{Injection}
 use Rattle.vcpu_events.specs.declared.Injection.the-variants.{Empty, Held, Written}
-use Rattle.vcpu_access.specs.Access as Access
-use Rattle.vcpu_access.specs.Access.{fieldsWritten, registersWritten}
+use Rattle.vcpu_events.specs.Access as Access
+use Rattle.vcpu_events.specs.Access.{fieldsWritten, registersWritten}
 use Rattle.vcpu_setup.specs.Capability.{pairsOf, capabilitiesOf}
 use Rattle.vcpu_setup.specs.Setup.{consistent, setupRefusal, setupOf}
 use Rattle.vcpu_setup.specs.Writes.{setupWrites, cr0Of, cr4Of}
 use Rattle.vcpu_setup.specs.declared.Arguments.{Arguments}
 use Rattle.vcpu_setup.specs.declared.CapabilityMsrs.{CapabilityMsrs}
-use Rattle.vcpu_setup_laws.specs.Laws.{Typed, SetUp}
-use Rattle.vcpu_setup_laws.proofs.SetupLaws.{passed, setup-number, set-up}
-use Rattle.setup_block.specs.Block.{argumentsOf, msrsOf}
+use Rattle.vcpu_setup.specs.Laws.{Typed, SetUp}
+use Rattle.vcpu_setup.proofs.SetupLaws.{passed, setup-number, set-up}
+use Rattle.blocks.specs.SetupBlock.{argumentsOf, msrsOf}
 use Rattle.x86_vcpu.specs.Records.{queueStep}
 use Rattle.vcpu_exit.specs.declared.Report.{Report}
 use Rattle.vcpu_report.specs.ExitReport as Exit
-use Rattle.report_block.specs.Block as Report
-use Rattle.report_block.specs.Block.{reportOf}
+use Rattle.blocks.specs.ReportBlock as Report
+use Rattle.blocks.specs.ReportBlock.{reportOf}
 use Rattle.vcpu_report.proofs.ReportLaws.{report-laws}
 use Rattle.calls.specs.Reference as Reference
 use Rattle.calls.specs.Reference.{Call, setup, queueEvent, injectInterrupt, entry, exitReport, apicValue, fieldWrite, registerWrite, WellTyped, AllWellTyped, Reference, waits, Effect, effect, referenceStep, Fed}

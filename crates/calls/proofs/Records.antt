@@ -17,10 +17,10 @@ use Rattle.vcpu_events.specs.declared.Answered.{Answered}
 use Rattle.vcpu_events.specs.declared.Entered.{Entered}
 use Rattle.vcpu_events.specs.declared.Injection.{Injection}
 use Rattle.vcpu_events.specs.declared.Injection.the-variants.{Empty, Held, Written}
-use Rattle.vcpu_access.specs.Access as Access
-use Rattle.vcpu_bitmaps.specs.Bitmaps.{ioBitmapSet, msrBitmapSet}
+use Rattle.vcpu_events.specs.Access as Access
+use Rattle.vcpu_setup.specs.Bitmaps.{ioBitmapSet, msrBitmapSet}
 use Rattle.vcpu_setup.specs.Setup.{setupOf}
-use Rattle.setup_block.specs.Block.{argumentsOf}
+use Rattle.blocks.specs.SetupBlock.{argumentsOf}
 use Rattle.record.specs.Codec.{sessionOf, encodeOf, acceptedOf, Encoded}
 use Rattle.record.specs.Fitting.{Fitting}
 use Rattle.record.specs.declared.Decoded.{Decoded}
@@ -29,8 +29,8 @@ use Rattle.x86_vcpu.specs.Records.{callOf, queueStep, EntryCall, entryCall, ent
 use Rattle.vcpu_answers.specs.Answer.{answerWords}
 use Rattle.vcpu_report.specs.ExitReport as Exit
 use Rattle.vcpu_report.specs.declared.Reported.{Reported}
-use Rattle.report_block.specs.Block as Report
-use Rattle.report_block.specs.Block.{reportOf}
+use Rattle.blocks.specs.ReportBlock as Report
+use Rattle.blocks.specs.ReportBlock.{reportOf}
 use Rattle.x86_vcpu.specs.ReportCall.{ReportCall, reportAnswer, reportAccepts, reportCall}
 use Rattle.x86_vcpu.specs.SetupCall.{setupAccepts, setupCall}
 use Rattle.calls.specs.Reference.{Call, setup, queueEvent, injectInterrupt, entry, exitReport, apicValue, fieldWrite, registerWrite, WellTyped, AllWellTyped}

@@ -38,9 +38,9 @@ use Rattle.vcpu_exit.specs.declared.Report.{Report}
 use Rattle.vcpu_exit.proofs.Passes.{passes}
 use Rattle.vcpu_answers.specs.Cpuid.{vendorInfo, extendedFeatures, frequencyInfo, leafWords, withWords, handleCpuid}
 use Rattle.vcpu_events.specs.Entry.{windowWord, windowSet}
-use Rattle.vcpu_handlers.specs.Handlers.{reportWrites, stored, failureWrites, failureStored, timerSet, cr0Set, cr4Set, eferWrites, eferUpdated, crHandled, handledAs, ripAdvanced, vmcsAfter}
-use Rattle.report_block.specs.Layout as Layout
-use Rattle.report_block.specs.Block.{cpuidOf, reportOf}
+use Rattle.vcpu_report.specs.Handlers.{reportWrites, stored, failureWrites, failureStored, timerSet, cr0Set, cr4Set, eferWrites, eferUpdated, crHandled, handledAs, ripAdvanced, vmcsAfter}
+use Rattle.blocks.specs.ReportLayout as Layout
+use Rattle.blocks.specs.ReportBlock.{cpuidOf, reportOf}
 use Rattle.vcpu_report.specs.ExitReport.{registersAfter, phaseAfter, failedEntry, afterExit, accepted, exitReport}
 use Rattle.vcpu_report.specs.declared.Reported.{Reported}
 use Rattle.record.specs.Runs.{All, Numbers, readAll, numbers}

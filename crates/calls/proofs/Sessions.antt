@@ -14,12 +14,12 @@ use Rattle.vcpu_events.specs.Entry as Entry
 use Rattle.vcpu_events.specs.declared.Answered.{Answered}
 use Rattle.vcpu_events.specs.declared.Entered.{Entered}
 use Rattle.vcpu_events.specs.declared.Injection.the-variants.{Empty}
-use Rattle.vcpu_access.specs.Access as Access
+use Rattle.vcpu_events.specs.Access as Access
 use Rattle.vcpu_setup.specs.Setup.{setupOf}
-use Rattle.setup_block.specs.Block.{argumentsOf, blockAccepted}
+use Rattle.blocks.specs.SetupBlock.{argumentsOf, blockAccepted}
 use Rattle.vcpu_report.specs.ExitReport as Exit
-use Rattle.report_block.specs.Block as Report
-use Rattle.report_block.specs.Block.{reportOf}
+use Rattle.blocks.specs.ReportBlock as Report
+use Rattle.blocks.specs.ReportBlock.{reportOf}
 use Rattle.record.specs.Fitting.{Fitting}
 use Rattle.x86_vcpu.specs.Records.{queueStep}
 use Rattle.calls.specs.Reference.{Call, setup, queueEvent, injectInterrupt, entry, exitReport, apicValue, fieldWrite, registerWrite}

@@ -15,13 +15,13 @@ use Rattle.structs.specs.EPTPointer.{eptPointer}
 use Rattle.vmcs.specs.Control.{controlWord}
 use Rattle.vmcs.specs.Cr.{cr0Free, cr0Off, firstCr0}
 use Rattle.vmcs.specs.Writes.{Write}
-use Rattle.vcpu_setup_laws.specs.Laws.{Typed}
+use Rattle.vcpu_setup.specs.Laws.{Typed}
 use Rattle.vcpu_setup.specs.Capability.{capabilitiesOf}
 use Rattle.vcpu_setup.specs.Words.{secondarySet, setupWords}
 use Rattle.vcpu_setup.specs.Writes.{hostWrites, crWrites, segmentsWrites, guestWrites, controlWrites, cr0Of, cr4Of, wordsOf, setupWrites}
 use Rattle.vcpu_setup.specs.declared.Features.{Features}
-use Rattle.setup_block.specs.Layout as Layout
-use Rattle.setup_block.specs.Block.{hostOf, addressesOf, msrsOf, featuresOf, argumentsOf}
+use Rattle.blocks.specs.SetupLayout as Layout
+use Rattle.blocks.specs.SetupBlock.{hostOf, addressesOf, msrsOf, featuresOf, argumentsOf}
 use Rattle.record.specs.Fitting.{CapabilitiesFit}
 use Rattle.calls.proofs.Fields.{_⊗_, AllFit, all-fit}
 

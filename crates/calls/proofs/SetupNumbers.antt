@@ -19,8 +19,8 @@ use Rattle.vcpu_setup.specs.Words.{secondarySet, bitsRefusal, orElse, wordsRefu
 use Rattle.vcpu_setup.specs.Setup.{consistent, setupRefusal}
 use Rattle.vcpu_setup.specs.declared.CapabilityMsrs.{CapabilityMsrs}
 use Rattle.vcpu_setup.specs.declared.Features.{Features}
-use Rattle.setup_block.specs.Layout as Layout
-use Rattle.setup_block.specs.Block.{blockAccepted}
+use Rattle.blocks.specs.SetupLayout as Layout
+use Rattle.blocks.specs.SetupBlock.{blockAccepted}
 use Rattle.calls.specs.Reference.{Rule, by, Refuses, Buffers, Consistent, wordRules, setupRules}
 use Rattle.calls.proofs.Choices.{cond-all}
 use Rattle.calls.proofs.Sessions.{hasBuffers}

@@ -37,23 +37,23 @@ use Rattle.vcpu_events.specs.declared.Answered.{Answered}
 use Rattle.vcpu_events.specs.declared.Entered.{Entered}
 use Rattle.vcpu_events.specs.declared.Injection.{Injection}
 use Rattle.vcpu_events.specs.declared.Injection.the-variants.{Empty, Held, Written}
-use Rattle.vcpu_access.specs.Access as Access
-use Rattle.vcpu_access.specs.Access.{fieldsWritten, registersWritten}
+use Rattle.vcpu_events.specs.Access as Access
+use Rattle.vcpu_events.specs.Access.{fieldsWritten, registersWritten}
 use Rattle.vcpu_setup.specs.Setup.{setupOf}
 use Rattle.vcpu_setup.specs.Writes.{setupWrites}
 use Rattle.vcpu_setup.specs.declared.Arguments.{Arguments}
 use Rattle.vcpu_setup.specs.declared.CapabilityMsrs.{CapabilityMsrs}
 use Rattle.vcpu_session.specs.declared.Capabilities.{Capabilities}
 use Rattle.vmcs.specs.Writes.{lastOf}
-use Rattle.vcpu_setup_laws.specs.Laws.{Typed}
-use Rattle.vcpu_setup_laws.proofs.SetupLaws.{set-up, setup-number, refused-keeps}
+use Rattle.vcpu_setup.specs.Laws.{Typed}
+use Rattle.vcpu_setup.proofs.SetupLaws.{set-up, setup-number, refused-keeps}
 use Rattle.vcpu_exit.specs.Refusal.{reportRefusal}
 use Rattle.vcpu_exit.specs.declared.Report.{Report}
 use Rattle.vcpu_report.specs.ExitReport as Exit
-use Rattle.report_block.specs.Layout as ReportLayout
-use Rattle.report_block.specs.Block.{reportOf}
+use Rattle.blocks.specs.ReportLayout as ReportLayout
+use Rattle.blocks.specs.ReportBlock.{reportOf}
 use Rattle.vcpu_report.proofs.ReportLaws.{report-laws}
-use Rattle.setup_block.specs.Block.{argumentsOf, msrsOf, featuresOf}
+use Rattle.blocks.specs.SetupBlock.{argumentsOf, msrsOf, featuresOf}
 use Rattle.x86_vcpu.specs.Records.{queueStep}
 use Rattle.calls.specs.Reference.{choose, Call, setup, queueEvent, injectInterrupt, entry, exitReport, apicValue, fieldWrite, registerWrite, WellTyped, Event, queuedBy, entriesBy, injectedBy, leftBy, heldBy, IsHeld, isHeld, answerOn, validBy, waits, Effect, inPhase, effect, accept, referenceStep, referenceAnswer, by, Refuses, Buffers, reportRules, rules}
 use Rattle.calls.specs.Calls.{Outcome, isRefused, eventOf, eventsOf, waitingOf, viewOf, guardedOf}

@@ -19,7 +19,7 @@ use Rattle.vcpu_session.specs.declared.Session.{Session}
 use Rattle.vcpu_events.specs.Queue as Queue
 use Rattle.vcpu_events.specs.declared.Injection.{Injection}
 use Rattle.vcpu_events.specs.declared.Injection.the-variants.{Empty, Held, Written}
-use Rattle.vcpu_access.specs.Access as Access
+use Rattle.vcpu_events.specs.Access as Access
 use Rattle.record.specs.Codec.{sessionOf, encodeOf, Encoded}
 use Rattle.x86_vcpu.specs.Records.{callOf, queueStep, EntryCall, entryCall, FramesCall}
 use Rattle.x86_vcpu.specs.SetupCall.{setupCall}

@@ -6,7 +6,7 @@ use mathlib.Core.List.{List}
 use Rattle.vcpu_events.specs.Queue as Queue
 use Rattle.vcpu_events.specs.Entry.{injectionNumber}
 use Rattle.vcpu_events.specs.declared.Injection.the-variants.{Empty}
-use Rattle.vcpu_access.specs.Access as Access
+use Rattle.vcpu_events.specs.Access as Access
 use Rattle.x86_vcpu.specs.Records.{Called, queueStep, EntryCalled, newCall}
 use Rattle.x86_vcpu.specs.SetupCall.{SetupCalled}
 use Rattle.x86_vcpu.specs.ReportCall.{ReportCalled}

@@ -16,7 +16,7 @@ use Rattle.vcpu_events.specs.declared.Injection.{Injection}
 use Rattle.vcpu_events.specs.declared.Injection.the-variants.{Empty, Held, Written}
 use Rattle.vcpu_setup.specs.Capability.{capabilitiesOf}
 use Rattle.vcpu_report.specs.Invariant.{judged, AllPermitted}
-use Rattle.setup_block.specs.Block.{msrsOf}
+use Rattle.blocks.specs.SetupBlock.{msrsOf}
 use Rattle.record.specs.Codec.{sessionOf, acceptedOf}
 use Rattle.calls.specs.Reference.{Call, setup, entry, Event, WellTyped, AllWellTyped, queuedBy, Reference, start, IsHeld, referenceAfter, referenceAnswers, rules, Refuses, types, codes, Word}
 use Rattle.calls.specs.Calls as Calls

@@ -18,10 +18,10 @@ use Rattle.vcpu_events.specs.declared.Injection.the-variants.{Empty, Held, Writ
 use Rattle.vcpu_setup.specs.declared.CapabilityMsrs.{CapabilityMsrs}
 use Rattle.vcpu_setup.specs.declared.Features.{Features}
 use Rattle.vcpu_exit.specs.declared.Report.{Report}
-use Rattle.report_block.specs.Layout as ReportLayout
-use Rattle.report_block.specs.Block.{reportOf}
-use Rattle.setup_block.specs.Layout as Layout
-use Rattle.setup_block.specs.Block.{msrsOf, featuresOf}
+use Rattle.blocks.specs.ReportLayout as ReportLayout
+use Rattle.blocks.specs.ReportBlock.{reportOf}
+use Rattle.blocks.specs.SetupLayout as Layout
+use Rattle.blocks.specs.SetupBlock.{msrsOf, featuresOf}
 
 -- ---- choices by a decision
 

@@ -6,6 +6,23 @@ ghost use Rattle.definitions.specs.Interruption.{typeNumber, typeOf, has
 
 pub mod exit_reason;
 pub mod irq;
+mod refusal;
+
+pub use refusal::Refusal;
+
+// The parts of an interruption word above its vector: the lowest bit of each (SDM 3C, 25.8.3 and 25.9.2).
+pub struct InterruptionBits {}
+
+impl InterruptionBits {
+    pub const TYPE: u32 = 8;
+
+    // An error code is delivered, or was.
+    pub const ERROR_CODE: u32 = 11;
+
+    pub const VALID: u32 = 31;
+}
+
+const VALID: u32 = 1 << InterruptionBits::VALID;
 
 // The interruption type, bits 8 to 10 of an interruption word (SDM 3C, 25.8.3 and 25.9.2).
 pub enum VmxInterruptionType {
@@ -39,7 +56,7 @@ pub fn type_number(int_type: VmxInterruptionType) -> u32
 pub fn type_of(word: u32) -> VmxInterruptionType
     ensures { λ r. ⌜ r ≡ typeOf word ⌝ }
 {
-    let number = (word >> 8) % 8;
+    let number = (word >> InterruptionBits::TYPE) % 8;
     if number == 0 {
         return VmxInterruptionType::External;
     }
@@ -122,5 +139,8 @@ pub fn is_soft(int_type: VmxInterruptionType) -> bool
 pub fn event_word(vector: u8, has_code: bool) -> u32
     ensures { λ r. ⌜ r ≡ eventWord vector «has_code» ⌝ }
 {
-    vector as u32 | type_number(from_vector(vector)) << 8 | (has_code as u32) << 11 | 0x8000_0000
+    vector as u32
+        | type_number(from_vector(vector)) << InterruptionBits::TYPE
+        | (has_code as u32) << InterruptionBits::ERROR_CODE
+        | VALID
 }

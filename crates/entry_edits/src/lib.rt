@@ -112,6 +112,8 @@ fn put_stack(b: &mut [u8], launched: bool, stack: u64)
     record_edits::put_natural(b, VmcsHostNW::RSP, stack);
 }
 
+const INTERRUPT_WINDOW_EXITING: u32 = 1 << PrimaryControls::INTERRUPT_WINDOW_EXITING;
+
 // Interrupt-window exiting on or off.
 pub fn set_interrupt_window(b: &mut [u8], enable: bool)
     requires { ⌜ acceptedOf (now b) ≡ true ⌝ }
@@ -122,14 +124,14 @@ pub fn set_interrupt_window(b: &mut [u8], enable: bool)
         record_edits::put_w32(
             b,
             VmcsControl32::PRIMARY_PROCBASED_EXEC_CONTROLS,
-            word | PrimaryControls::INTERRUPT_WINDOW_EXITING,
+            word | INTERRUPT_WINDOW_EXITING,
         );
         return;
     }
     record_edits::put_w32(
         b,
         VmcsControl32::PRIMARY_PROCBASED_EXEC_CONTROLS,
-        word & !PrimaryControls::INTERRUPT_WINDOW_EXITING,
+        word & !INTERRUPT_WINDOW_EXITING,
     );
 }
 

@@ -14,6 +14,7 @@ ghost use Rattle.record.specs.Fitting.{ProgressFits, VmcsFits, QueueFits
 
 pub mod words;
 
+use definitions::Refusal;
 use regs::GeneralRegisters;
 use vcpu_session::Capabilities;
 use vcpu_session::Fixed;
@@ -257,7 +258,7 @@ pub fn decode(b: &[u8]) -> Decoded
         }
     } else {
         Decoded {
-            refusal: 2,
+            refusal: Refusal::BYTES,
             session: vcpu_session::new(),
         }
     }
@@ -430,7 +431,7 @@ pub fn encode(b: &mut [u8], s: Session) -> u32
     ensures { λ r. ⌜ (r ≡ 0 → Fitting s) ⌝ }
 {
     if b.len() != Record::LENGTH {
-        return 2;
+        return Refusal::BYTES;
     }
     put_session(b, s);
     0

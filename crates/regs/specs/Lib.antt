@@ -1,2 +1,3 @@
 -- The definitions that the contracts of `regs` cite.
 pub mod Registers
+pub mod Accessors

@@ -1,8 +1,11 @@
 // The general-purpose registers by value.
 // Ported from x86_vcpu src/regs/mod.rs and src/regs/accessors.rs (Copyright 2025 The Axvisor Team, Apache-2.0). Changed: access by index
 // takes and returns the registers by value, judges the whole index and refuses where the Rust panics; narrow names (eax, al, ..) are left out.
+pub mod accessors;
+
 ghost use mathlib.Core.Path.{_≡_};
 ghost use Rattle.regs.specs.Registers.{listOf, ofList, regOfIndex, withRegOfIndex};
+use definitions::Refusal;
 
 // In the order of their encoding in an instruction.
 #[repr(C)]
@@ -90,10 +93,10 @@ pub fn reg_of_index(g: GeneralRegisters, index: u64) -> RegAnswer
     ensures { λ r. ⌜ r ≡ regOfIndex g index ⌝ }
 {
     if 15 < index {
-        return RegAnswer::Refused(23);
+        return RegAnswer::Refused(Refusal::INDEX);
     }
     if index == 4 {
-        return RegAnswer::Refused(23);
+        return RegAnswer::Refused(Refusal::INDEX);
     }
     let l = to_array(g);
     let i = index as usize;
@@ -106,13 +109,13 @@ pub fn with_reg_of_index(g: GeneralRegisters, index: u64, value: u64) -> RegWrit
 {
     if 15 < index {
         return RegWritten {
-            refusal: 23,
+            refusal: Refusal::INDEX,
             regs: g,
         };
     }
     if index == 4 {
         return RegWritten {
-            refusal: 23,
+            refusal: Refusal::INDEX,
             regs: g,
         };
     }

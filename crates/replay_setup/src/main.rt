@@ -101,8 +101,8 @@ fn frames_digest(fill: u64) -> u64 {
     let mut a = [byte; 4096];
     let mut b = [byte; 4096];
     let mut msr = [byte; 4096];
-    vcpu_bitmaps::setup_io_bitmap(&mut a, &mut b);
-    vcpu_bitmaps::setup_msr_bitmap(&mut msr);
+    vcpu_setup::bitmaps::setup_io_bitmap(&mut a, &mut b);
+    vcpu_setup::bitmaps::setup_msr_bitmap(&mut msr);
     let first = replay::digest_of(&a) % 0x1_0000_0000;
     let second = replay::digest_of(&b) % 0x1_0000_0000;
     let third = replay::digest_of(&msr) % 0x1_0000_0000;

@@ -4,7 +4,7 @@ use lib.ListN.{take, drop}
 use Rattle.vmcs.specs.Writes.{Write}
 use Rattle.vmcs.specs.declared.Vmcs.{Vmcs}
 use Rattle.vcpu_exit.specs.declared.Report.{Report}
-use Rattle.vcpu_handlers.specs.Handlers.{reportWrites}
+use Rattle.vcpu_report.specs.Handlers.{reportWrites}
 
 -- from RIP to EFER
 abbrev pub guestWrites : Vmcs → Report → List Write

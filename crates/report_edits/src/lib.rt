@@ -8,12 +8,14 @@ ghost use Rattle.vmcs.specs.Writes.{applied};
 ghost use Rattle.vcpu_session.specs.Session.{withVmcs};
 ghost use Rattle.vcpu_exit.specs.Reading.{pastEnd};
 ghost use Rattle.vcpu_exit.specs.Refusal.{entryPair, ownedBitsDiffer, reportRefusal};
-ghost use Rattle.vcpu_handlers.specs.Handlers.{stored, failureStored, timerSet, cr0Set, cr4Set, eferUpdated, crHandled, handledAs, ripAdvanced, vmcsAfter};
+ghost use Rattle.vcpu_report.specs.Handlers.{stored, failureStored, timerSet, cr0Set, cr4Set, eferUpdated, crHandled, handledAs, ripAdvanced, vmcsAfter};
 ghost use Rattle.vcpu_report.specs.ExitReport.{failedEntry, afterExit, accepted};
 ghost use Rattle.record.specs.Record.{LENGTH};
 ghost use Rattle.record.specs.Codec.{sessionOf, acceptedOf};
 ghost use Rattle.record_edits.specs.Holds.{Holds};
 ghost use Rattle.report_edits.specs.Stored.{guestWrites, exitWrites};
+use definitions::InterruptionBits;
+use definitions::Refusal;
 use definitions::exit_reason::VmxExitReason;
 use record::Record;
 use vcpu_answers::AxVCpuExitReason;
@@ -21,6 +23,7 @@ use vcpu_exit::Report;
 use vcpu_session::Fixed;
 use vcpu_session::Phase;
 use vmcs::controls::Pair;
+use vmcs::flags::Cr0Flags;
 use vmcs::names::VmcsControl32;
 use vmcs::names::VmcsControlNW;
 use vmcs::names::VmcsGuest32;
@@ -59,16 +62,16 @@ pub fn report_refusal(b: &[u8], r: Report) -> u32
     ensures { λ n. ⌜ n ≡ reportRefusal (sessionOf (now (b .entry))) r ⌝ }
 {
     if record::phase_at(b) != Phase::RUNNING {
-        return 1;
+        return Refusal::PHASE;
     }
     if vcpu_exit::unknown_reason(r) {
-        return 14;
+        return Refusal::REASON;
     }
     if vcpu_exit::is_failed(r) {
         return 0;
     }
     if owned_bits_differ(b, r) {
-        return 15;
+        return Refusal::OWNED_BITS;
     }
     let pair = entry_pair_at(b);
     let entry = record::w32_at(b, VmcsControl32::VMENTRY_CONTROLS);
@@ -115,7 +118,9 @@ fn store_exit(b: &mut [u8], r: Report)
     record_edits::put_w32(b, VmcsReadOnly32::VMEXIT_INTERRUPTION_ERR_CODE, r.code);
 }
 
-// The report's fields. Bit 31 of the entry interruption field is cleared.
+const VALID: u32 = 1 << InterruptionBits::VALID;
+
+// The report's fields. The valid bit of the entry interruption field is cleared.
 fn store_report(b: &mut [u8], r: Report)
     requires { ⌜ acceptedOf (now b) ≡ true ⌝ }
     ensures { λ _. ⌜ Holds (now (b .exit)) (withVmcs (sessionOf (now (b .entry))) (stored (sessionOf (now (b .entry)) .vmcs) r)) ⌝ }
@@ -126,7 +131,7 @@ fn store_report(b: &mut [u8], r: Report)
     record_edits::put_w32(
         b,
         VmcsControl32::VMENTRY_INTERRUPTION_INFO_FIELD,
-        entry & !0x8000_0000,
+        entry & !VALID,
     );
 }
 
@@ -190,7 +195,7 @@ fn handle_cr(b: &mut [u8], r: Report)
     }
     let cr0 = record::fixed_at(b, Record::CR0);
     set_cr0(b, cr0, value);
-    if (value >> 31) % 2 == 1 {
+    if (value >> Cr0Flags::PAGING) % 2 == 1 {
         let pair = entry_pair_at(b);
         update_efer(b, pair, r.efer);
         return;

@@ -11,9 +11,10 @@ ghost use Rattle.structs.specs.Bitmap.{fullByte, setBits};
 ghost use Rattle.structs.specs.Frames.{setPorts, editPorts, quarterOf, msrRefusal, editMsrs};
 ghost use Rattle.structs.specs.PortPart.{partFrom, portPart};
 ghost use Rattle.structs.specs.EPTPointer.{eptPointer};
+use definitions::Refusal;
 
 // The bytes of a frame.
-const FRAME_SIZE: usize = 4096;
+pub const FRAME_SIZE: usize = 4096;
 // One past the last port.
 const PORTS: usize = 0x1_0000;
 
@@ -144,10 +145,10 @@ pub fn set_intercept_of_range(
     ensures { λ r. ⌜ record { refusal = r; a = now (a .exit); b = now (b .exit) } ≡ editPorts (now (a .entry)) (now (b .entry)) «port_base» count intercept ⌝ }
 {
     if a.len() != FRAME_SIZE {
-        return 2;
+        return Refusal::BYTES;
     }
     if b.len() != FRAME_SIZE {
-        return 2;
+        return Refusal::BYTES;
     }
     if count == 0 {
         return 0;
@@ -155,7 +156,7 @@ pub fn set_intercept_of_range(
     let from = port_base as usize;
     let ports = count as usize;
     if PORTS < from + ports {
-        return 10;
+        return Refusal::PORT;
     }
     set_ports(a, b, from, ports, intercept);
     0
@@ -167,14 +168,14 @@ pub fn set_intercept(a: &mut [u8], b: &mut [u8], port: u32, intercept: bool) -> 
     ensures { λ r. ⌜ record { refusal = r; a = now (a .exit); b = now (b .exit) } ≡ editPorts (now (a .entry)) (now (b .entry)) port 1 intercept ⌝ }
 {
     if a.len() != FRAME_SIZE {
-        return 2;
+        return Refusal::BYTES;
     }
     if b.len() != FRAME_SIZE {
-        return 2;
+        return Refusal::BYTES;
     }
     let p = port as usize;
     if PORTS <= p {
-        return 10;
+        return Refusal::PORT;
     }
     let part = port_part(&a[..], &b[..], port);
     let byte = with_bit((p % 8) as u8, intercept, part[0]);
@@ -207,16 +208,16 @@ fn msr_refusal(len: usize, from: usize, to: usize) -> u32
     ensures { λ r. ⌜ r ≡ msrRefusal len from to ⌝ }
 {
     if len != FRAME_SIZE {
-        return 2;
+        return Refusal::BYTES;
     }
     if to <= LOW_MSRS {
         return 0;
     }
     if from < HIGH_MSRS {
-        return 11;
+        return Refusal::MSR;
     }
     if HIGH_MSRS_END < to {
-        return 11;
+        return Refusal::MSR;
     }
     0
 }

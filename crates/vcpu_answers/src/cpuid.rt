@@ -16,6 +16,20 @@ const LEAF_HYPERVISOR_INFO: u32 = 0x4000_0000;
 
 const LEAF_HYPERVISOR_FEATURE: u32 = 0x4000_0001;
 
+// Leaf 1, ECX: VMX, and that a hypervisor is there. The Rust clears bit 7, which is MCE in EDX, in EAX.
+const FEATURE_VMX: u32 = 1 << 5;
+
+const FEATURE_HYPERVISOR: u32 = 1 << 31;
+
+const FEATURE_MCE: u32 = 1 << 7;
+
+// Leaf 7, ECX: WAITPKG and LA57.
+const EXTENDED_WAITPKG: u32 = 1 << 5;
+
+const EXTENDED_LA57: u32 = 1 << 16;
+
+const EXTENDED_HIDDEN: u32 = EXTENDED_WAITPKG | EXTENDED_LA57;
+
 const TIMER_FREQUENCY_MHZ: u32 = 3_000;
 
 // Four bytes as a number, the least significant first.
@@ -38,19 +52,19 @@ fn vendor_info() -> CpuidWords
     }
 }
 
-// No VMX (ECX bit 5), a hypervisor is there (ECX bit 31); bit 7 is cleared in EAX as in the Rust, not in EDX, where MCE is.
+// No VMX, a hypervisor is there; bit 7 is cleared in EAX as in the Rust, not in EDX.
 fn feature_info(host: CpuidWords) -> CpuidWords
     ensures { λ w. ⌜ w ≡ featureInfo host ⌝ }
 {
     CpuidWords {
-        eax: host.eax & !0x80,
+        eax: host.eax & !FEATURE_MCE,
         ebx: host.ebx,
-        ecx: host.ecx & !0x20 | 0x8000_0000,
+        ecx: host.ecx & !FEATURE_VMX | FEATURE_HYPERVISOR,
         edx: host.edx,
     }
 }
 
-// Where all of RCX is 0: no WAITPKG (ECX bit 5), no LA57 (ECX bit 16).
+// Where all of RCX is 0: no WAITPKG, no LA57.
 fn extended_features(rcx: u64, host: CpuidWords) -> CpuidWords
     ensures { λ w. ⌜ w ≡ extendedFeatures rcx host ⌝ }
 {
@@ -58,7 +72,7 @@ fn extended_features(rcx: u64, host: CpuidWords) -> CpuidWords
         return CpuidWords {
             eax: host.eax,
             ebx: host.ebx,
-            ecx: host.ecx & !0x1_0020,
+            ecx: host.ecx & !EXTENDED_HIDDEN,
             edx: host.edx,
         };
     }

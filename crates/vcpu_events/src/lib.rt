@@ -9,6 +9,7 @@ ghost use mathlib.Core.Bool.{cond};
 use vcpu_session::Phase;
 use vcpu_session::Progress;
 use vcpu_session::Session;
+use vmcs::flags::RFlags;
 
 // An event: a vector and, if one is given, an error code. The code is 0 where none is given.
 pub struct Event {
@@ -69,7 +70,7 @@ pub fn with_coded(coded: u64, place: u8, on: bool) -> u64
 pub fn is_held(vector: u8, rflags: u64, interruptibility: u32) -> bool
     ensures { λ r. ⌜ r ≡ isHeld vector rflags interruptibility ⌝ }
 {
-    (32 <= vector) & (((rflags >> 9) % 2 == 0) | (interruptibility != 0))
+    (32 <= vector) & (((rflags >> RFlags::INTERRUPT_FLAG) % 2 == 0) | (interruptibility != 0))
 }
 
 // Running, launched, one entry more, and one held entry more where the event is held. The caller has tested 22.

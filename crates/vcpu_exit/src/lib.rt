@@ -5,12 +5,14 @@ ghost use mathlib.Core.Path.{_≡_};
 ghost use Prim.Native.Nat.{_<_};
 ghost use Rattle.vcpu_exit.specs.Reading.{reasonOf, failed, isApic, readEdxEax, registerOf, movedValue, isMoveTo, turnsPagingOn, advanceTo, advanceOf, pastEnd};
 ghost use Rattle.vcpu_exit.specs.Refusal.{unknownReason, ownedBitsDiffer, noInterrupt, otherAccess, otherXcr, eferRefusal, exitRefusal, reportRefusal};
+use definitions::Refusal;
 use definitions::exit_reason::VmxExitReason;
 use regs::GeneralRegisters;
 use vcpu_session::Phase;
 use vcpu_session::Session;
 use vmcs::Vmcs;
 use vmcs::controls::Pair;
+use vmcs::flags::Cr0Flags;
 use vmcs::names::VmcsControl32;
 use vmcs::names::VmcsControlNW;
 use vmcs::names::VmcsGuestNW;
@@ -116,7 +118,7 @@ fn turns_paging_on(r: Report) -> bool
 {
     (reason_of(r) == VmxExitReason::CR_ACCESS)
         & is_move_to(r, 0)
-        & ((moved_value(r) >> 31) % 2 == 1)
+        & ((moved_value(r) >> Cr0Flags::PAGING) % 2 == 1)
 }
 
 fn advance_to(reason: u32, r: Report) -> u64
@@ -207,22 +209,22 @@ pub fn exit_refusal(pair: Pair, entry: u32, r: Report) -> u32
 {
     let reason = reason_of(r);
     if no_interrupt(r) {
-        return 16;
+        return Refusal::INTERRUPT;
     }
     if other_access(r) {
-        return 18;
+        return Refusal::CR_ACCESS;
     }
     if other_xcr(r) {
-        return 20;
+        return Refusal::XCR;
     }
     if reason == VmxExitReason::XSETBV {
-        return 19;
+        return Refusal::XCR0;
     }
     if reason == VmxExitReason::APIC_ACCESS {
-        return 21;
+        return Refusal::APIC_ACCESS;
     }
     if past_end(r) {
-        return 17;
+        return Refusal::SUM;
     }
     efer_refusal(pair, entry, r)
 }

@@ -3,6 +3,11 @@
 // as numbers, and a sum that passes 2^64 - 1 is refused.
 ghost use mathlib.Core.Path.{_≡_};
 ghost use Rattle.vcpu_readings.specs.Readings.{cpuMode, pagingLevel, walkWidth, walkPse, walkNxe, pageWalk, segmentBase, linearAddress, modeNumber};
+use definitions::Refusal;
+use vmcs::flags::AccessRights;
+use vmcs::flags::Cr0Flags;
+use vmcs::flags::Cr4Flags;
+use vmcs::flags::EferFlags;
 
 // The mode of the guest's CPU.
 pub enum VmCpuMode {
@@ -46,8 +51,8 @@ pub enum AddressAnswer {
 pub fn cpu_mode(efer: u64, csrights: u32, cr0: u64) -> VmCpuMode
     ensures { λ r. ⌜ r ≡ cpuMode efer csrights cr0 ⌝ }
 {
-    if (efer >> 10) % 2 == 1 {
-        if (csrights >> 13) % 2 == 1 {
+    if (efer >> EferFlags::LONG_MODE_ACTIVE) % 2 == 1 {
+        if (csrights >> AccessRights::LONG_MODE) % 2 == 1 {
             return VmCpuMode::Mode64;
         }
         return VmCpuMode::Compatibility;
@@ -74,13 +79,13 @@ pub fn mode_number(mode: VmCpuMode) -> u32
 fn paging_level(w: PagingWords) -> u8
     ensures { λ r. ⌜ r ≡ pagingLevel w ⌝ }
 {
-    if (w.cr0 >> 31) % 2 == 0 {
+    if (w.cr0 >> Cr0Flags::PAGING) % 2 == 0 {
         return 0;
     }
-    if (w.cr4 >> 5) % 2 == 0 {
+    if (w.cr4 >> Cr4Flags::PHYSICAL_ADDRESS_EXTENSION) % 2 == 0 {
         return 2;
     }
-    if (w.efer >> 10) % 2 == 1 {
+    if (w.efer >> EferFlags::LONG_MODE_ACTIVE) % 2 == 1 {
         return 4;
     }
     3
@@ -103,7 +108,7 @@ fn walk_pse(level: u8, cr4: u64) -> bool
     ensures { λ r. ⌜ r ≡ walkPse level cr4 ⌝ }
 {
     if level == 2 {
-        return (cr4 >> 4) % 2 == 1;
+        return (cr4 >> Cr4Flags::PAGE_SIZE_EXTENSION) % 2 == 1;
     }
     true
 }
@@ -115,7 +120,7 @@ fn walk_nxe(level: u8, efer: u64) -> bool
     if level == 2 {
         return false;
     }
-    (efer >> 11) % 2 == 1
+    (efer >> EferFlags::NO_EXECUTE_ENABLE) % 2 == 1
 }
 
 // What a walk of the guest's page tables starts from (`get_ptw_info`).
@@ -127,14 +132,14 @@ pub fn page_walk(w: PagingWords) -> GuestPageWalkInfo
         top_entry: w.cr3,
         level: level,
         width: walk_width(level),
-        is_user_mode_access: (w.ssrights >> 5) % 4 == 3,
+        is_user_mode_access: (w.ssrights >> AccessRights::DPL) % 4 == 3,
         is_write_access: false,
         is_inst_fetch: false,
         pse: walk_pse(level, w.cr4),
-        wp: (w.cr0 >> 16) % 2 == 1,
+        wp: (w.cr0 >> Cr0Flags::WRITE_PROTECT) % 2 == 1,
         nxe: walk_nxe(level, w.efer),
-        is_smap_on: (w.cr4 >> 21) % 2 == 1,
-        is_smep_on: (w.cr4 >> 20) % 2 == 1,
+        is_smap_on: (w.cr4 >> Cr4Flags::SUPERVISOR_MODE_ACCESS_PREVENTION) % 2 == 1,
+        is_smep_on: (w.cr4 >> Cr4Flags::SUPERVISOR_MODE_EXECUTION_PROTECTION) % 2 == 1,
     }
 }
 
@@ -156,7 +161,7 @@ pub fn linear_address(mode: VmCpuMode, csbase: u64, address: u64) -> AddressAnsw
 {
     let base = segment_base(mode, csbase);
     if 0xFFFF_FFFF_FFFF_FFFF - base < address {
-        return AddressAnswer::Refused(17);
+        return AddressAnswer::Refused(Refusal::SUM);
     }
     AddressAnswer::Value(address + base)
 }

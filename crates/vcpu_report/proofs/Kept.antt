@@ -30,7 +30,7 @@ use Rattle.vcpu_exit.specs.Refusal.{ownedBitsDiffer, otherAccess, eferRefusal, 
 use Rattle.vcpu_exit.specs.declared.Report.{Report}
 use Rattle.vcpu_exit.proofs.Conds.{cond-all}
 use Rattle.vcpu_events.specs.Entry.{windowWord, windowSet}
-use Rattle.vcpu_handlers.specs.Handlers.{reportWrites, stored, timerSet, cr0Set, cr4Set, eferWrites, eferUpdated, handled, ripAdvanced, vmcsAfter, failureWrites, failureStored}
+use Rattle.vcpu_report.specs.Handlers.{reportWrites, stored, timerSet, cr0Set, cr4Set, eferWrites, eferUpdated, handled, ripAdvanced, vmcsAfter, failureWrites, failureStored}
 use Rattle.vcpu_report.specs.Invariant.{Consistent, PermittedBy, SoundFields, Fits}
 use Rattle.vcpu_report.proofs.Steps.{by-move, by-reason, kept-by}
 use Rattle.vcpu_report.proofs.Words.{aside-clear, agreed, moved-to}

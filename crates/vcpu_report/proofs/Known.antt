@@ -25,7 +25,7 @@ use Rattle.vcpu_exit.specs.Reading.{movedValue, advanceOf}
 use Rattle.vcpu_exit.specs.Refusal.{entryPair}
 use Rattle.vcpu_exit.specs.declared.Report.{Report}
 use Rattle.vcpu_events.specs.Entry.{windowWord, windowSet}
-use Rattle.vcpu_handlers.specs.Handlers.{reportWrites, stored, timerSet, cr0Set, cr4Set, eferWrites, eferUpdated, handled, ripAdvanced, vmcsAfter}
+use Rattle.vcpu_report.specs.Handlers.{reportWrites, stored, timerSet, cr0Set, cr4Set, eferWrites, eferUpdated, handled, ripAdvanced, vmcsAfter}
 use Rattle.vcpu_report.specs.Laws.{oneOf, handlerFields}
 use Rattle.vcpu_report.proofs.Steps.{by-move, by-reason, fieldsOf, split, kept-field}
 

@@ -23,7 +23,7 @@ use Rattle.vcpu_exit.proofs.Conds.{cond-all}
 use Rattle.vcpu_exit.proofs.Passes.{passes}
 use Rattle.vcpu_answers.specs.Answer.{answerOf}
 use Rattle.vcpu_answers.specs.declared.AxVCpuExitReason.the-variants.{Nothing, FailEntry}
-use Rattle.vcpu_handlers.specs.Handlers.{failureWrites, failureStored}
+use Rattle.vcpu_report.specs.Handlers.{failureWrites, failureStored}
 use Rattle.vcpu_report.specs.ExitReport.{phaseAfter, failedEntry, afterExit, accepted, exitReport, reported}
 use Rattle.vcpu_report.specs.Invariant.{Consistent, Sound, Fits}
 use Rattle.vcpu_report.specs.Laws.{SameRest, AfterExit, AfterFailure, ReportLaws}

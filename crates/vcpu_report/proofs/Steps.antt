@@ -21,7 +21,7 @@ use Rattle.vcpu_exit.specs.Refusal.{entryPair}
 use Rattle.vcpu_exit.specs.declared.Report.{Report}
 use Rattle.vcpu_exit.proofs.Conds.{cond-all}
 use Rattle.vcpu_events.specs.Entry.{windowSet}
-use Rattle.vcpu_handlers.specs.Handlers.{timerSet, cr0Set, cr4Set, eferUpdated, crHandled, handledAs, handled}
+use Rattle.vcpu_report.specs.Handlers.{timerSet, cr0Set, cr4Set, eferUpdated, crHandled, handledAs, handled}
 use Rattle.vcpu_report.specs.Invariant.{Judged, judged, SoundWords, SoundFields}
 use Rattle.vcpu_report.specs.Laws.{oneOf}
 

@@ -14,7 +14,7 @@ use Rattle.vcpu_answers.specs.Answer.{answerOf}
 use Rattle.vcpu_answers.specs.Cpuid.{handleCpuid}
 use Rattle.vcpu_answers.specs.declared.AxVCpuExitReason.{AxVCpuExitReason}
 use Rattle.vcpu_answers.specs.declared.AxVCpuExitReason.the-variants.{Nothing, FailEntry}
-use Rattle.vcpu_handlers.specs.Handlers.{vmcsAfter, failureStored}
+use Rattle.vcpu_report.specs.Handlers.{vmcsAfter, failureStored}
 use Rattle.vcpu_report.specs.declared.Reported.{Reported}
 
 -- CPUID, reason 10, changes four registers

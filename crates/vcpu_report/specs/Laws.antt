@@ -22,7 +22,7 @@ use Rattle.vcpu_exit.specs.Refusal.{reportRefusal}
 use Rattle.vcpu_exit.specs.declared.Report.{Report}
 use Rattle.vcpu_answers.specs.Answer.{answerOf}
 use Rattle.vcpu_answers.specs.declared.AxVCpuExitReason.the-variants.{FailEntry}
-use Rattle.vcpu_handlers.specs.Handlers.{reportWrites}
+use Rattle.vcpu_report.specs.Handlers.{reportWrites}
 use Rattle.vcpu_report.specs.ExitReport.{phaseAfter, registersAfter, exitReport}
 use Rattle.vcpu_report.specs.Invariant.{Consistent, Sound, Fits}
 

@@ -2,3 +2,4 @@
 pub mod ExitReport
 pub mod Invariant
 pub mod Laws
+pub mod Handlers

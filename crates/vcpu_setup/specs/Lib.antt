@@ -3,3 +3,6 @@ pub mod Capability
 pub mod Words
 pub mod Writes
 pub mod Setup
+pub mod Laws
+pub mod Added
+pub mod Bitmaps

@@ -1,6 +1,8 @@
 // Setup: the capability words of a processor and the host's state become the fields of a session.
 // Ported from setup_vmcs of x86_vcpu src/vmx/vcpu.rs (Copyright 2025 The Axvisor Team, Apache-2.0). Changed: MSRs, CPUID flags, the host's state and the
 // frames' addresses come in as arguments; every refusal is found before a field is written.
+pub mod bitmaps;
+
 ghost use mathlib.Core.Path.{_≡_};
 ghost use Prim.Native.Nat.{_<_};
 ghost use Rattle.vmcs.specs.Field.{Word16, Word32, Natural};
@@ -9,6 +11,7 @@ ghost use Rattle.vcpu_setup.specs.Capability.{halves, fixedWords, pairsO
 ghost use Rattle.vcpu_setup.specs.Words.{secondarySet, setupWord, setupWords, bitsRefusal, orElse, wordsRefusal};
 ghost use Rattle.vcpu_setup.specs.Writes.{hostSet, crSet, segmentWrites, segmentsSet, guestSet, controlSet, vmcsSet};
 ghost use Rattle.vcpu_setup.specs.Setup.{pairConsistent, fixedConsistent, consistent, capabilityRefusal, setupRefusal, readied, setupOf};
+use definitions::Refusal;
 use vcpu_events::Answered;
 use vcpu_session::Capabilities;
 use vcpu_session::Fixed;
@@ -153,45 +156,50 @@ pub fn capabilities_of(m: CapabilityMsrs) -> Capabilities
 
 // ---- the five words
 
+const ENABLE_EPT: u32 = 1 << SecondaryControls::ENABLE_EPT;
+
+const UNRESTRICTED_GUEST: u32 = 1 << SecondaryControls::UNRESTRICTED_GUEST;
+
 // EPT and unrestricted guest, and what CPUID offers.
 fn secondary_set(f: Features) -> u32
     ensures { λ r. ⌜ r ≡ secondarySet f ⌝ }
 {
-    (f.rdtscp as u32) << 3
-        | (f.invpcid as u32) << 12
-        | (f.xsaves as u32) << 20
-        | (SecondaryControls::ENABLE_EPT | SecondaryControls::UNRESTRICTED_GUEST)
+    (f.rdtscp as u32) << SecondaryControls::ENABLE_RDTSCP
+        | (f.invpcid as u32) << SecondaryControls::ENABLE_INVPCID
+        | (f.xsaves as u32) << SecondaryControls::ENABLE_XSAVES_XRSTORS
+        | (ENABLE_EPT | UNRESTRICTED_GUEST)
 }
 
-const PIN_SET: u32 = PinbasedControls::NMI_EXITING | PinbasedControls::EXTERNAL_INTERRUPT_EXITING;
+const PIN_SET: u32 = 1 << PinbasedControls::NMI_EXITING
+    | 1 << PinbasedControls::EXTERNAL_INTERRUPT_EXITING;
 
-const PRIMARY_SET: u32 = PrimaryControls::USE_IO_BITMAPS
-    | PrimaryControls::USE_MSR_BITMAPS
-    | PrimaryControls::SECONDARY_CONTROLS;
+const PRIMARY_SET: u32 = 1 << PrimaryControls::USE_IO_BITMAPS
+    | 1 << PrimaryControls::USE_MSR_BITMAPS
+    | 1 << PrimaryControls::SECONDARY_CONTROLS;
 
-const PRIMARY_CLEAR: u32 = PrimaryControls::CR3_LOAD_EXITING
-    | PrimaryControls::CR3_STORE_EXITING
-    | PrimaryControls::CR8_LOAD_EXITING
-    | PrimaryControls::CR8_STORE_EXITING;
+const PRIMARY_CLEAR: u32 = 1 << PrimaryControls::CR3_LOAD_EXITING
+    | 1 << PrimaryControls::CR3_STORE_EXITING
+    | 1 << PrimaryControls::CR8_LOAD_EXITING
+    | 1 << PrimaryControls::CR8_STORE_EXITING;
 
-const EXIT_SET: u32 = ExitControls::HOST_ADDRESS_SPACE_SIZE
-    | ExitControls::ACK_INTERRUPT_ON_EXIT
-    | ExitControls::SAVE_IA32_PAT
-    | ExitControls::LOAD_IA32_PAT
-    | ExitControls::SAVE_IA32_EFER
-    | ExitControls::LOAD_IA32_EFER;
+const EXIT_SET: u32 = 1 << ExitControls::HOST_ADDRESS_SPACE_SIZE
+    | 1 << ExitControls::ACK_INTERRUPT_ON_EXIT
+    | 1 << ExitControls::SAVE_IA32_PAT
+    | 1 << ExitControls::LOAD_IA32_PAT
+    | 1 << ExitControls::SAVE_IA32_EFER
+    | 1 << ExitControls::LOAD_IA32_EFER;
 
-const ENTRY_SET: u32 = EntryControls::LOAD_IA32_PAT | EntryControls::LOAD_IA32_EFER;
+const ENTRY_SET: u32 = 1 << EntryControls::LOAD_IA32_PAT | 1 << EntryControls::LOAD_IA32_EFER;
 
 // The refusal of one word: 8, a set bit is not in allowed-1; 9, a cleared bit is in allowed-0; or 0.
 fn bits_refusal(pair: Pair, set: u32, clear: u32) -> u32
     ensures { λ r. ⌜ r ≡ bitsRefusal pair set clear ⌝ }
 {
     if set & pair.allowed1 != set {
-        return 8;
+        return Refusal::SET;
     }
     if pair.allowed0 & clear != 0 {
-        return 9;
+        return Refusal::CLEAR;
     }
     0
 }
@@ -421,16 +429,19 @@ fn set_control(v: Vmcs, words: [u32; 5], eptp: u64, a: Addresses) -> Vmcs
     v
 }
 
+// CR0 at reset (SDM 3A, 9.1.1): NW, CD and ET.
+const NW: u64 = 1 << Cr0Flags::NOT_WRITE_THROUGH;
+
+const CD: u64 = 1 << Cr0Flags::CACHE_DISABLE;
+
+const ET: u64 = 1 << Cr0Flags::EXTENSION_TYPE;
+
 // All that setup_vmcs writes.
 fn set_vmcs(v: Vmcs, a: Arguments) -> Vmcs
     ensures { λ r. ⌜ r ≡ vmcsSet v a ⌝ }
 {
     let m = a.msrs;
-    let cr0 = vmcs::controls::cr0_words(
-        m.cr0fixed0,
-        m.cr0fixed1,
-        Cr0Flags::NOT_WRITE_THROUGH | Cr0Flags::CACHE_DISABLE | Cr0Flags::EXTENSION_TYPE,
-    );
+    let cr0 = vmcs::controls::cr0_words(m.cr0fixed0, m.cr0fixed1, NW | CD | ET);
     let cr4 = vmcs::controls::cr4_words(m.cr4fixed0, m.cr4fixed1, 0);
     let features = a.features;
     let words = setup_words(pairs_of(m), olds_of(m), features);
@@ -479,7 +490,7 @@ pub fn capability_refusal(c: Capabilities, f: Features) -> u32
         let pairs = c.pairs;
         return words_refusal(pairs, f);
     }
-    6
+    Refusal::PAIR
 }
 
 // 2; 1, not fresh; then those of the capabilities; or 0.
@@ -487,10 +498,10 @@ fn setup_refusal(s: Session, c: Capabilities, f: Features) -> u32
     ensures { λ r. ⌜ r ≡ setupRefusal s c f ⌝ }
 {
     if vcpu_session::is_unlawful(s) {
-        return 2;
+        return Refusal::BYTES;
     }
     if s.progress.phase != Phase::FRESH {
-        return 1;
+        return Refusal::PHASE;
     }
     capability_refusal(c, f)
 }

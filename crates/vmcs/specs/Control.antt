@@ -26,10 +26,14 @@ setControl w allowed0 allowed1 old set clear =
     (cond (not (eqb (bitAnd allowed0 clear) 0)) (Refused 9)
     (Word (controlWord w allowed0 allowed1 old set clear)))))
 
--- the answer in document 01's numbers: 0 and the word, or the number of the refusal
-abbrev pub controlNumbers : ControlAnswer → List ℕ
-controlNumbers (Word word) = 0 ∷ word ∷ []
-controlNumbers (Refused n) = n ∷ []
+-- the answer in document 01's numbers: 0 and the word, or the number of the refusal and the result that the caller had
+pub record ControlNumbers : Type 0 where
+  pub refusal : ℕ
+  pub word : ℕ
+
+abbrev pub controlNumbers : ControlAnswer → ℕ → ControlNumbers
+controlNumbers (Word w) before = record { refusal = 0; word = w }
+controlNumbers (Refused n) before = record { refusal = n; word = before }
 
 -- what the manual asks of an accepted word: all of allowed-0, nothing outside allowed-1, all of set, nothing of clear, and each other bit that
 -- may be 0 or 1 as in old

@@ -7,6 +7,7 @@ use crate::flags::Cr0Flags;
 use crate::flags::Cr4Flags;
 use crate::flags::EferFlags;
 use crate::flags::EntryControls;
+use definitions::Refusal;
 
 // What a control word may be: the bits that must be 1, and those that may be.
 pub struct Pair {
@@ -36,16 +37,16 @@ pub fn set_control(pair: Pair, old: u32, set: u32, clear: u32) -> ControlAnswer
     ensures { λ r. ⌜ r ≡ setControl 32 (pair .allowed0) (pair .allowed1) old set clear ⌝ }
 {
     if pair.allowed0 & pair.allowed1 != pair.allowed0 {
-        return ControlAnswer::Refused(6);
+        return ControlAnswer::Refused(Refusal::PAIR);
     }
     if set & clear != 0 {
-        return ControlAnswer::Refused(7);
+        return ControlAnswer::Refused(Refusal::SET_AND_CLEAR);
     }
     if set & pair.allowed1 != set {
-        return ControlAnswer::Refused(8);
+        return ControlAnswer::Refused(Refusal::SET);
     }
     if pair.allowed0 & clear != 0 {
-        return ControlAnswer::Refused(9);
+        return ControlAnswer::Refused(Refusal::CLEAR);
     }
     ControlAnswer::Word(control_word(pair, old, set, clear))
 }
@@ -85,22 +86,43 @@ fn cr_words(must0: u64, must1: u64, val: u64) -> CrWords
     }
 }
 
+// The words of the bits that are set and cleared below, one bit each.
+const PE: u64 = 1 << Cr0Flags::PROTECTED_MODE_ENABLE;
+
+const NW: u64 = 1 << Cr0Flags::NOT_WRITE_THROUGH;
+
+const CD: u64 = 1 << Cr0Flags::CACHE_DISABLE;
+
+const PG: u64 = 1 << Cr0Flags::PAGING;
+
+const VMXE: u64 = 1 << Cr4Flags::VIRTUAL_MACHINE_EXTENSIONS;
+
+const LMA: u64 = 1 << EferFlags::LONG_MODE_ACTIVE;
+
+const IA32E_MODE_GUEST: u32 = 1 << EntryControls::IA32E_MODE_GUEST;
+
+// Every bit of EFER that has a name.
+const EFER_NAMED: u64 = 1 << EferFlags::SYSTEM_CALL_EXTENSIONS
+    | 1 << EferFlags::LONG_MODE_ENABLE
+    | 1 << EferFlags::LONG_MODE_ACTIVE
+    | 1 << EferFlags::NO_EXECUTE_ENABLE
+    | 1 << EferFlags::SECURE_VIRTUAL_MACHINE_ENABLE
+    | 1 << EferFlags::LONG_MODE_SEGMENT_LIMIT_ENABLE
+    | 1 << EferFlags::FAST_FXSAVE_FXRSTOR
+    | 1 << EferFlags::TRANSLATION_CACHE_EXTENSION;
+
 // CR0: NW and CD are kept off, PG and PE are the guest's (`set_cr`).
 pub fn cr0_words(fixed0: u64, fixed1: u64, val: u64) -> CrWords
     ensures { λ r. ⌜ r ≡ cr0Words fixed0 fixed1 val ⌝ }
 {
-    cr_words(
-        fixed1 & !(Cr0Flags::NOT_WRITE_THROUGH | Cr0Flags::CACHE_DISABLE),
-        fixed0 & !(Cr0Flags::PAGING | Cr0Flags::PROTECTED_MODE_ENABLE),
-        val,
-    )
+    cr_words(fixed1 & !(NW | CD), fixed0 & !(PG | PE), val)
 }
 
 // CR4: VMXE is added to what is asked for, so that the read shadow has it too (`set_cr`).
 pub fn cr4_words(fixed0: u64, fixed1: u64, val: u64) -> CrWords
     ensures { λ r. ⌜ r ≡ cr4Words fixed0 fixed1 val ⌝ }
 {
-    cr_words(fixed1, fixed0, val | Cr4Flags::VIRTUAL_MACHINE_EXTENSIONS)
+    cr_words(fixed1, fixed0, val | VMXE)
 }
 
 // EFER and the entry controls after paging is turned on: as they were where it is refused.
@@ -114,13 +136,14 @@ pub struct EferUpdate {
 fn is_long_mode(efer: u64) -> bool
     ensures { λ r. ⌜ r ≡ isLongMode efer ⌝ }
 {
-    ((efer >> 8) % 2 == 1) & ((efer >> 10) % 2 == 1)
+    ((efer >> EferFlags::LONG_MODE_ENABLE) % 2 == 1)
+        & ((efer >> EferFlags::LONG_MODE_ACTIVE) % 2 == 1)
 }
 
 fn lacks_ia32e(pair: Pair) -> bool
     ensures { λ r. ⌜ r ≡ lacksIa32e (pair .allowed1) ⌝ }
 {
-    (pair.allowed1 >> 9) % 2 == 0
+    (pair.allowed1 >> EntryControls::IA32E_MODE_GUEST) % 2 == 0
 }
 
 // Unless LME and LMA are both set: LMA is set, unnamed bits of EFER go, and the entry word gets IA-32e mode guest. Refusal 8: the pair does
@@ -137,15 +160,15 @@ pub fn update_efer(pair: Pair, efer: u64, entry: u32) -> EferUpdate
     }
     if lacks_ia32e(pair) {
         return EferUpdate {
-            refusal: 8,
+            refusal: Refusal::SET,
             efer: efer,
             entry: entry,
         };
     }
-    let word = control_word(pair, entry, EntryControls::IA32E_MODE_GUEST, 0);
+    let word = control_word(pair, entry, IA32E_MODE_GUEST, 0);
     EferUpdate {
         refusal: 0,
-        efer: efer & EferFlags::ALL | EferFlags::LONG_MODE_ACTIVE,
+        efer: efer & EFER_NAMED | LMA,
         entry: word,
     }
 }

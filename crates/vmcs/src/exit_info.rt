@@ -1,7 +1,29 @@
 // What the words of a VM exit say.
 ghost use mathlib.Core.Path.{_≡_};
 ghost use Rattle.vmcs.specs.ExitInfo.{exitInfo, interruptExitInfo, ioExitInfo, crAccessInfo};
+use definitions::InterruptionBits;
 use definitions::VmxInterruptionType;
+
+// The exit reason: the entry failed (SDM 3C, 25.9.1).
+const ENTRY_FAILURE: u32 = 31;
+
+// The qualification of an I/O instruction (SDM 3C, 28.2.1): the lowest bit of each part.
+const IO_IN: u64 = 3;
+
+const IO_STRING: u64 = 4;
+
+const IO_REP: u64 = 5;
+
+const IO_PORT: u64 = 16;
+
+// The qualification of a control-register access (SDM 3C, 28.2.1): the lowest bit of each part above the register's number.
+const CR_ACCESS_TYPE: u64 = 4;
+
+const CR_LMSW_OPERAND: u64 = 6;
+
+const CR_REGISTER: u64 = 8;
+
+const CR_LMSW_SOURCE: u64 = 16;
 
 // The exit reason (SDM 3C, 25.9.1).
 pub struct VmxExitInfo {
@@ -46,7 +68,7 @@ pub fn exit_info(full_reason: u32) -> VmxExitInfo
     ensures { λ r. ⌜ r ≡ exitInfo «full_reason» ⌝ }
 {
     VmxExitInfo {
-        entry_failure: (full_reason >> 31) % 2 == 1,
+        entry_failure: (full_reason >> ENTRY_FAILURE) % 2 == 1,
         exit_reason: full_reason % 0x1_0000,
     }
 }
@@ -58,8 +80,8 @@ pub fn interrupt_exit_info(info: u32) -> VmxInterruptInfo
     VmxInterruptInfo {
         vector: (info % 0x100) as u8,
         int_type: int_type,
-        err_code: (info >> 11) % 2 == 1,
-        valid: (info >> 31) % 2 == 1,
+        err_code: (info >> InterruptionBits::ERROR_CODE) % 2 == 1,
+        valid: (info >> InterruptionBits::VALID) % 2 == 1,
     }
 }
 
@@ -68,10 +90,10 @@ pub fn io_exit_info(qualification: u64) -> VmxIoExitInfo
 {
     VmxIoExitInfo {
         access_size: (qualification % 8) as u8 + 1,
-        is_in: (qualification >> 3) % 2 == 1,
-        is_string: (qualification >> 4) % 2 == 1,
-        is_repeat: (qualification >> 5) % 2 == 1,
-        port: ((qualification >> 16) % 0x1_0000) as u16,
+        is_in: (qualification >> IO_IN) % 2 == 1,
+        is_string: (qualification >> IO_STRING) % 2 == 1,
+        is_repeat: (qualification >> IO_REP) % 2 == 1,
+        port: ((qualification >> IO_PORT) % 0x1_0000) as u16,
     }
 }
 
@@ -80,9 +102,9 @@ pub fn cr_access_info(qualification: u64) -> CrAccessInfo
 {
     CrAccessInfo {
         cr_number: (qualification % 16) as u8,
-        access_type: ((qualification >> 4) % 4) as u8,
-        lmsw_op_type: ((qualification >> 6) % 2) as u8,
-        gpr: ((qualification >> 8) % 16) as u8,
-        lmsw_source_data: ((qualification >> 16) % 0x100) as u8,
+        access_type: ((qualification >> CR_ACCESS_TYPE) % 4) as u8,
+        lmsw_op_type: ((qualification >> CR_LMSW_OPERAND) % 2) as u8,
+        gpr: ((qualification >> CR_REGISTER) % 16) as u8,
+        lmsw_source_data: ((qualification >> CR_LMSW_SOURCE) % 0x100) as u8,
     }
 }

@@ -13,6 +13,7 @@ pub mod flags;
 pub mod names;
 pub mod table;
 
+use definitions::Refusal;
 use table::COUNTS;
 use table::STARTS;
 
@@ -140,7 +141,7 @@ pub fn vmcs_read(v: Vmcs, encoding: u64) -> FieldAnswer
     if place < 154 {
         return FieldAnswer::Value(value_at(v, place));
     }
-    FieldAnswer::Refused(3)
+    FieldAnswer::Refused(Refusal::ENCODING)
 }
 
 // Why a write of a value is refused, or 0. Refusals: 3, no such encoding; 4, read-only; 5, the value is wider than the field.
@@ -148,13 +149,13 @@ pub fn write_refusal(encoding: u64, value: u64) -> u32
     ensures { λ r. ⌜ r ≡ writeRefusal encoding value ⌝ }
 {
     if 154 <= position(encoding) {
-        return 3;
+        return Refusal::ENCODING;
     }
     if read_only(encoding) {
-        return 4;
+        return Refusal::READ_ONLY;
     }
     if greatest_of(encoding) < value {
-        return 5;
+        return Refusal::WIDTH;
     }
     0
 }

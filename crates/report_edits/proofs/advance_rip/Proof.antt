@@ -4,7 +4,7 @@ use native.Mathlib.Omega.{arith}
 use borrow.Author.Tests.{ltb-false}
 use borrow.Author.Needs.{needs}
 use Rattle.vcpu_exit.specs.Reading.{advanceOf, pastEnd}
-use Rattle.vcpu_handlers.specs.Handlers.{ripAdvanced}
+use Rattle.vcpu_report.specs.Handlers.{ripAdvanced}
 use Rattle.report_edits.proofs.advance_rip.Statement.{statement}
 use Rattle.report_edits.proofs.advance_rip.Tie as tie
 

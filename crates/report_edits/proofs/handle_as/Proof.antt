@@ -1,7 +1,7 @@
 -- `report_edits::handle_as` meets its contract. Assumes nothing.
 use borrow.Author.Needs.{needs}
 use Rattle.bits.proofs.Tests.{answers}
-use Rattle.vcpu_handlers.specs.Handlers.{handledAs}
+use Rattle.vcpu_report.specs.Handlers.{handledAs}
 use Rattle.report_edits.proofs.handle_as.Statement.{statement}
 use Rattle.report_edits.proofs.handle_as.Tie as tie
 

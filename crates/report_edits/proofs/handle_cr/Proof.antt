@@ -2,7 +2,7 @@
 use mathlib.Core.Path.{_∙_}
 use borrow.Author.Needs.{needs}
 use Rattle.bits.proofs.Tests.{answers}
-use Rattle.vcpu_handlers.specs.Handlers.{crHandled}
+use Rattle.vcpu_report.specs.Handlers.{crHandled}
 use Rattle.record.proofs.Capabilities.{cr0-read, cr4-read}
 use Rattle.record.proofs.Accepted.{whole}
 use Rattle.report_edits.proofs.handle_cr.Statement.{statement}

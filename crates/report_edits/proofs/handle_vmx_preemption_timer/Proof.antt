@@ -1,6 +1,6 @@
 -- `report_edits::handle_vmx_preemption_timer` meets its contract. Assumes nothing.
 use borrow.Author.Needs.{needs}
-use Rattle.vcpu_handlers.specs.Handlers.{timerSet}
+use Rattle.vcpu_report.specs.Handlers.{timerSet}
 use Rattle.report_edits.proofs.handle_vmx_preemption_timer.Statement.{statement}
 use Rattle.report_edits.proofs.handle_vmx_preemption_timer.Tie as tie
 

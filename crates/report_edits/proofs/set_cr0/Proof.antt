@@ -1,6 +1,6 @@
 -- `report_edits::set_cr0` meets its contract. Assumes nothing.
 use borrow.Author.Needs.{needs}
-use Rattle.vcpu_handlers.specs.Handlers.{cr0Set}
+use Rattle.vcpu_report.specs.Handlers.{cr0Set}
 use Rattle.report_edits.proofs.set_cr0.Statement.{statement}
 use Rattle.report_edits.proofs.set_cr0.Tie as tie
 

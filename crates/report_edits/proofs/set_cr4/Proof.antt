@@ -1,6 +1,6 @@
 -- `report_edits::set_cr4` meets its contract. Assumes nothing.
 use borrow.Author.Needs.{needs}
-use Rattle.vcpu_handlers.specs.Handlers.{cr4Set}
+use Rattle.vcpu_report.specs.Handlers.{cr4Set}
 use Rattle.report_edits.proofs.set_cr4.Statement.{statement}
 use Rattle.report_edits.proofs.set_cr4.Tie as tie
 

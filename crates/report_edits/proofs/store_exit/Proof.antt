@@ -1,6 +1,6 @@
 -- `report_edits::store_exit` meets its contract. Assumes nothing.
 use borrow.Author.Needs.{needs}
-use Rattle.vcpu_handlers.specs.Handlers.{failureStored}
+use Rattle.vcpu_report.specs.Handlers.{failureStored}
 use Rattle.report_edits.proofs.store_exit.Statement.{statement}
 use Rattle.report_edits.proofs.store_exit.Tie as tie
 

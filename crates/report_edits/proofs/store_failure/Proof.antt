@@ -1,6 +1,6 @@
 -- `report_edits::store_failure` meets its contract. Assumes nothing.
 use borrow.Author.Needs.{needs}
-use Rattle.vcpu_handlers.specs.Handlers.{failureStored}
+use Rattle.vcpu_report.specs.Handlers.{failureStored}
 use Rattle.report_edits.proofs.store_failure.Statement.{statement}
 use Rattle.report_edits.proofs.store_failure.Tie as tie
 

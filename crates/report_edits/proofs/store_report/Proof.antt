@@ -1,6 +1,6 @@
 -- `report_edits::store_report` meets its contract. Assumes nothing.
 use borrow.Author.Needs.{needs}
-use Rattle.vcpu_handlers.specs.Handlers.{stored}
+use Rattle.vcpu_report.specs.Handlers.{stored}
 use Rattle.record.proofs.Accepted.{whole}
 use Rattle.report_edits.proofs.store_report.Statement.{statement}
 use Rattle.report_edits.proofs.store_report.Tie as tie

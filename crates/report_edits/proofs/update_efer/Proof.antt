@@ -1,6 +1,6 @@
 -- `report_edits::update_efer` meets its contract. Assumes nothing.
 use borrow.Author.Needs.{needs}
-use Rattle.vcpu_handlers.specs.Handlers.{eferUpdated}
+use Rattle.vcpu_report.specs.Handlers.{eferUpdated}
 use Rattle.record.proofs.Accepted.{whole}
 use Rattle.report_edits.proofs.update_efer.Statement.{statement}
 use Rattle.report_edits.proofs.update_efer.Tie as tie

@@ -1,6 +1,6 @@
 -- `report_edits::vmcs_after` meets its contract. Assumes nothing.
 use borrow.Author.Needs.{needs}
-use Rattle.vcpu_handlers.specs.Handlers.{vmcsAfter}
+use Rattle.vcpu_report.specs.Handlers.{vmcsAfter}
 use Rattle.report_edits.proofs.vmcs_after.Statement.{statement}
 use Rattle.report_edits.proofs.vmcs_after.Tie as tie
 

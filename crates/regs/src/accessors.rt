@@ -1,0 +1,45 @@
+// Access by index to registers that are borrowed, for a caller that keeps them in a struct of its own.
+// Ported from x86_vcpu src/regs/accessors.rs (Copyright 2025 The Axvisor Team, Apache-2.0). Changed: the whole index is judged, and what the Rust panics
+// at is refused by 23.
+ghost use mathlib.Core.Path.{_≡_};
+ghost use Rattle.regs.specs.Registers.{regOfIndex, withRegOfIndex};
+ghost use Rattle.regs.specs.Accessors.{indexRefusal};
+use crate::GeneralRegisters;
+use crate::RegAnswer;
+use definitions::Refusal;
+
+// 23: index 4, or above 15; or 0.
+pub fn index_refusal(index: u64) -> u32
+    ensures { λ r. ⌜ r ≡ indexRefusal index ⌝ }
+{
+    if 15 < index {
+        return Refusal::INDEX;
+    }
+    if index == 4 {
+        return Refusal::INDEX;
+    }
+    0
+}
+
+// The registers with the one at an index changed, or as they were where the index is refused.
+fn written(g: GeneralRegisters, index: u64, value: u64) -> GeneralRegisters
+    ensures { λ r. ⌜ r ≡ withRegOfIndex g index value .regs ⌝ }
+{
+    let w = crate::with_reg_of_index(g, index, value);
+    w.regs
+}
+
+// The register at an index of borrowed registers: refusal 23.
+pub fn get_reg_of_index(regs: &GeneralRegisters, index: u64) -> RegAnswer
+    ensures { λ r. ⌜ r ≡ regOfIndex (now (regs .entry)) index ⌝ }
+{
+    crate::reg_of_index(*regs, index)
+}
+
+// Changes the register at an index of borrowed registers: refusal 23, and then they stay as they were.
+pub fn set_reg_of_index(regs: &mut GeneralRegisters, index: u64, value: u64) -> u32
+    ensures { λ r. ⌜ record { refusal = r; regs = now (regs .exit) } ≡ withRegOfIndex (now (regs .entry)) index value ⌝ }
+{
+    *regs = written(*regs, index, value);
+    index_refusal(index)
+}

@@ -1,3 +1,0 @@
--- The definitions that the contracts of `report_block` cite.
-pub mod Layout
-pub mod Block

@@ -1,2 +1,0 @@
--- The definitions that the contracts of `vcpu_access` cite.
-pub mod Access

@@ -1,0 +1,3 @@
+pub mod SetupLaws
+pub mod WordsLaws
+pub mod AddedLaws

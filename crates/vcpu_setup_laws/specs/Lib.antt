@@ -1,2 +1,0 @@
--- What an accepted setup leaves.
-pub mod Laws

@@ -1,5 +1,5 @@
 //! The port's side of docs/DIFFERENCES.md: on the smallest input of each difference the archive must do what document 01 says. The names are
-//! those of oracle/differences.txt, which has the original's side; each must be here.
+//! those of oracle/differences.txt, which has the original's side; each must be here, and in a row of the document.
 
 use crate::archive;
 use crate::buffer::{Buffer, Results};
@@ -17,6 +17,7 @@ const PRIMARY: u32 = 0x4002;
 const ENTRY_INTERRUPTION: u32 = 0x4016;
 const HOST_CR3: u32 = 0x6C02;
 const HOST_TR: u32 = 0x0C0C;
+const HOST_RSP: u32 = 0x6C14;
 const HOST_TR_BASE: u32 = 0x6C0A;
 const FAILED: u32 = 1 << 31;
 
@@ -144,7 +145,7 @@ struct Kept {
     port: fn() -> String,
 }
 
-const KEPT: [Kept; 27] = [
+const KEPT: [Kept; 43] = [
     Kept {
         name: "bitmap length",
         document: "accepted, bytes change; byte 1,024 of A is 0x1",
@@ -302,6 +303,136 @@ const KEPT: [Kept; 27] = [
         },
     },
     Kept {
+        name: "control word, 6 to 9",
+        document: "refused [6, 7, 8, 9], no word",
+        port: || {
+            let set_control = archive::vcpu_set_control().expect("the function");
+            let mut word = 0xA5A5_A5A5;
+            let words = [(1, 0, 0, 0), (0, 1, 1, 1), (0, 0, 1, 0), (1, 1, 0, 1)];
+            let numbers = words.map(|(allowed0, allowed1, set, clear)| unsafe {
+                set_control(allowed0, allowed1, 0, set, clear, &mut word)
+            });
+            let written = if word == 0xA5A5_A5A5 { "no word" } else { "a word" };
+            format!("refused {numbers:?}, {written}")
+        },
+    },
+    Kept {
+        name: "6 and 9 at setup",
+        document: "refused 6, nothing changes; refused 9, nothing changes",
+        port: || {
+            let with = |word: usize, pair: u64| {
+                let setup = changed(|s| s.capabilities.pairs[word] = pair);
+                Port::new().number(|port| port.setup(&setup))
+            };
+            format!("{}; {}", with(0, 1), with(1, 0xFFFF_FFFF << 32 | 0x8000))
+        },
+    },
+    Kept {
+        name: "MSR without a bit",
+        document: "refused 11, nothing changes; refused 11, nothing changes",
+        port: || {
+            let read = archive::vcpu_set_read_intercept().expect("the function");
+            let both = archive::vcpu_set_msr_intercept_of_range().expect("the function");
+            let edit = |port: &mut Port, f: unsafe extern "C" fn(*mut u8, usize, u32, u8) -> u32, msr| {
+                port.number(|port| unsafe { f(port.frames[2].pointer(), FRAME_BYTES, msr, 1) })
+            };
+            let mut port = Port::new();
+            format!("{}; {}", edit(&mut port, read, 0x2000), edit(&mut port, both, 0xC000_2000))
+        },
+    },
+    Kept {
+        name: "vector 0",
+        document: "refused 12, nothing changes",
+        port: || Port::ready().number(|port| port.call(Call::InjectInterrupt { vector: 0 }).number),
+    },
+    Kept {
+        name: "reasons without a name",
+        document: "refused 14, nothing changes; refused 14, nothing changes; refused 14, nothing changes",
+        port: || [35, 38, 42].map(|reason| Port::running().refused(reason, |_| ())).join("; "),
+    },
+    Kept {
+        name: "valid clear at reason 1",
+        document: "refused 16, nothing changes",
+        port: || Port::running().refused(1, |r| r.interruption_info = 0x20),
+    },
+    Kept {
+        name: "other accesses to control registers",
+        document: "refused 18, nothing changes; refused 18, nothing changes; refused 18, nothing changes; refused 18, nothing changes",
+        port: || [3, 0x10, 0x20, 0x30].map(|q| Port::running().refused(28, |r| r.qualification = q)).join("; "),
+    },
+    Kept {
+        name: "XSETBV",
+        document: "refused 20, nothing changes; refused 19, nothing changes",
+        port: || {
+            let with = |rcx, rax| Port::running().refused(55, |r| (r.registers[1], r.registers[0]) = (rcx, rax));
+            format!("{}; {}", with(1, 7), with(0, 7))
+        },
+    },
+    Kept {
+        name: "other APIC accesses",
+        document: "refused 21, nothing changes; refused 21, nothing changes",
+        port: || [0x2000, 0x5000].map(|q| Port::running().refused(44, |r| r.qualification = q)).join("; "),
+    },
+    Kept {
+        name: "register without a name",
+        document: "refused 23, nothing changes; refused 23, nothing changes",
+        port: || {
+            let write = Port::ready().number(|port| port.call(Call::SetRegister { index: 4, value: 7 }).number);
+            let read = Port::ready().number(|port| port.call(Call::GetRegister { index: 16 }).number);
+            format!("{write}; {read}")
+        },
+    },
+    Kept {
+        name: "linear address past the end",
+        document: "refused 17, nothing changes",
+        port: || {
+            let mut port = Port::ready();
+            assert_eq!(port.call(Call::WriteField { encoding: 0x6808, value: 1 }).number, 0);
+            port.number(|port| port.call(Call::Gla2gva { host_efer: 0, address: u64::MAX }).number)
+        },
+    },
+    Kept {
+        name: "failed entry",
+        document: "answer [b, 0, 0]; refused 1, nothing changes; refused 1, nothing changes",
+        port: || {
+            let mut port = Port::running();
+            let text = answer(port.report(33 | FAILED, |_| ()));
+            let queue = port.number(|port| port.queue(3));
+            let entry = port.number(|port| port.call(Call::Entry { host_stack: 0 }).number);
+            format!("{text}; {queue}; {entry}")
+        },
+    },
+    Kept {
+        name: "SysRegRead's register",
+        document: "answer [6, 1b, 0]",
+        port: || answer(Port::running().report(31, |r| r.registers[1] = 0x1B)),
+    },
+    Kept {
+        name: "APIC registers",
+        document: "answer [9, 808, 5]",
+        port: || answer(Port::running().report(32, |r| (r.registers[1], r.registers[0]) = (0x808, 5))),
+    },
+    Kept {
+        name: "capability words after setup",
+        document: "answer [0, 0, 0]; 0x2020",
+        port: || {
+            let mut port = Port::running();
+            let text = answer(port.report(28, |r| (r.qualification, r.registers[0]) = (4, 0x20)));
+            format!("{text}; {:#x}", port.field(CR4))
+        },
+    },
+    Kept {
+        name: "unbind",
+        document: "answer [a, 0, 0]; resumed 1, host RSP 0x7000",
+        port: || {
+            let mut port = Port::running();
+            let text = answer(port.report(12, |_| ()));
+            let entry = port.call(Call::Entry { host_stack: 0x9000 });
+            assert_eq!(entry.number, 0);
+            format!("{text}; resumed {}, host RSP {:#x}", entry.results.words()[0] as u8, port.field(HOST_RSP))
+        },
+    },
+    Kept {
         name: "reasons above 64",
         document: "refused 14, nothing changes; refused 14, nothing changes",
         port: || format!("{}; {}", Port::running().refused(65, |_| ()), Port::running().refused(70, |_| ())),
@@ -368,6 +499,8 @@ pub fn run(_: &mut Random, _: u64, totals: &mut Totals) {
     for name in originals() {
         let times = KEPT.iter().filter(|kept| kept.name == name).count();
         tally.compare(times == 1, || format!("{name}: {times} tests of the port"));
+        let row = include_str!("../../../docs/DIFFERENCES.md").contains(&format!("[{name}]"));
+        tally.compare(row, || format!("{name}: no row of docs/DIFFERENCES.md"));
     }
     totals.add(tally);
 }

@@ -35,12 +35,30 @@ fn exit_with(reason: u32, change: impl FnOnce(&mut Report)) -> (String, Oracle) 
     (text, oracle)
 }
 
+/// How the exit that a change to the usual report gives fails, up to the dump of the vCPU.
+fn failing_exit(reason: u32, change: impl FnOnce(&mut Report)) -> String {
+    let mut oracle = ready();
+    oracle.enter(0).expect("entry");
+    let mut report = report(&mut oracle, reason);
+    change(&mut report);
+    let text = failure(oracle.exit(&report));
+    let end = [", vcpu", ": VmxVcpu {"].iter().filter_map(|mark| text.find(mark)).min();
+    text[..end.unwrap_or(text.len())].to_string()
+}
+
+/// What the original's `run` itself answers to a change of the usual report.
+fn run_of(oracle: &mut Oracle, reason: u32, change: impl FnOnce(&mut Report)) -> access::AxVCpuExitReason {
+    let mut report = report(oracle, reason);
+    change(&mut report);
+    oracle.bare(|vcpu| access::run(vcpu, Box::new(move |vcpu, _| report.load(vcpu, true)))).expect("an answer")
+}
+
 fn fields(oracle: &mut Oracle, encodings: &[u32]) -> String {
     let one = |&encoding: &u32| format!("{encoding:#06x} {:#x}", oracle.read_field(encoding).unwrap());
     encodings.iter().map(one).collect::<Vec<_>>().join(", ")
 }
 
-const DIFFERENCES: [Difference; 27] = [
+const DIFFERENCES: [Difference; 43] = [
     Difference {
         name: "bitmap length",
         input: "port edit, port 0x2000, count 1",
@@ -261,6 +279,147 @@ const DIFFERENCES: [Difference; 27] = [
             let mut oracle = ready();
             let again = failure(oracle.setup(&usual_setup()));
             format!("setup again {again}; entry {}", failure(Oracle::new().enter(0)))
+        },
+    },
+    Difference {
+        name: "control word, 6 to 9",
+        input: "control word: allowed-0 1, allowed-1 0; set 1 and clear 1; set 1, allowed-1 0; clear 1, allowed-0 1",
+        document: "refused 6; refused 7; refused 8; refused 9",
+        original: || {
+            let words = [(1, 0, 0, 0), (0, 1, 1, 1), (0, 0, 1, 0), (1, 1, 0, 1)];
+            let one =
+                |(allowed0, allowed1, set, clear)| failure(leaves::set_control(allowed0, allowed1, 0, set, clear));
+            words.map(one).join("; ")
+        },
+    },
+    Difference {
+        name: "6 and 9 at setup",
+        input: "setup, pin pair 1 (allowed-0 1, allowed-1 0); primary pair with bit 15 in allowed-0",
+        document: "refused 6; refused 9",
+        original: || {
+            let with = |word: usize, pair: u64| {
+                let mut args = usual_setup();
+                args.capabilities.pairs[word] = pair;
+                failure(Oracle::new().setup(&args))
+            };
+            format!("{}; {}", with(0, 1), with(1, 0xFFFF_FFFF << 32 | 0x8000))
+        },
+    },
+    Difference {
+        name: "MSR without a bit",
+        input: "MSR edit, reads of 0x2000; both of 0xC0002000",
+        document: "refused 11; refused 11",
+        original: || {
+            let read = failure(Oracle::new().set_read_intercept(0x2000, true));
+            format!("{read}; {}", failure(Oracle::new().set_msr_intercept_of_range(0xC000_2000, true)))
+        },
+    },
+    Difference {
+        name: "vector 0",
+        input: "inject_interrupt, vector 0",
+        document: "refused 12",
+        original: || failure(ready().inject_interrupt(0)),
+    },
+    Difference {
+        name: "reasons without a name",
+        input: "exit report, reasons 35, 38 and 42",
+        document: "refused 14; refused 14; refused 14",
+        original: || [35, 38, 42].map(|reason| failing_exit(reason, |_| ())).join("; "),
+    },
+    Difference {
+        name: "valid clear at reason 1",
+        input: "exit report, reason 1, interruption information 0x20",
+        document: "refused 16",
+        original: || failing_exit(1, |r| r.interruption_info = 0x20),
+    },
+    Difference {
+        name: "other accesses to control registers",
+        input: "exit report, reason 28, qualification 3 (move to CR3), 0x10 (move from CR0), 0x20 (CLTS), 0x30 (LMSW)",
+        document: "refused 18, each",
+        original: || [3, 0x10, 0x20, 0x30].map(|q| failing_exit(28, |r| r.qualification = q)).join("; "),
+    },
+    Difference {
+        name: "XSETBV",
+        input: "exit report, reason 55, ECX 1; ECX 0, EDX:EAX 7",
+        document: "refused 20; refused 19",
+        original: || {
+            let with = |rcx, rax| failing_exit(55, |r| (r.registers[1], r.registers[0]) = (rcx, rax));
+            format!("{}; {}", with(1, 7), with(0, 7))
+        },
+    },
+    Difference {
+        name: "other APIC accesses",
+        input: "exit report, reason 44, qualification 0x2000 (an instruction fetch); 0x5000 (no access type)",
+        document: "refused 21; refused 21",
+        original: || [0x2000, 0x5000].map(|q| failing_exit(44, |r| r.qualification = q)).join("; "),
+    },
+    Difference {
+        name: "register without a name",
+        input: "register write, index 4; register read, index 16",
+        document: "refused 23; refused 23",
+        original: || format!("{}; {}", failure(ready().set_register(4, 7)), failure(ready().get_register(16))),
+    },
+    Difference {
+        name: "linear address past the end",
+        input: "gla2gva, CS base 1, host EFER 0, address 2^64 - 1",
+        document: "refused 17",
+        original: || {
+            let mut oracle = ready();
+            oracle.write_field(0x6808, 1).expect("CS base");
+            failure(oracle.gla2gva(0, u64::MAX))
+        },
+    },
+    Difference {
+        name: "failed entry",
+        input: "exit report, reason 0x80000021; then queue_event, then an entry",
+        document: "FailEntry; the session is ended: refused 1; refused 1",
+        original: || {
+            let (text, mut oracle) = exit_with(33 | 1 << 31, |_| ());
+            oracle.queue_event(3, None);
+            let waiting = oracle.events().len();
+            format!("{text}; {waiting} waits; entry {}", failure(oracle.enter(0)))
+        },
+    },
+    Difference {
+        name: "SysRegRead's register",
+        input: "exit report, reason 31, RCX 0x1B",
+        document: "SysRegRead of 0x1B, and no register",
+        original: || format!("{:x?}", run_of(&mut ready(), 31, |r| r.registers[1] = 0x1B)),
+    },
+    Difference {
+        name: "APIC registers",
+        input: "exit report, reason 32, RCX 0x808, EDX:EAX 5",
+        document: "ApicWrite of 0x808 and 5: the device is the host's",
+        original: || {
+            let mut oracle = ready();
+            let answer = run_of(&mut oracle, 32, |r| (r.registers[1], r.registers[0]) = (0x808, 5));
+            format!("{answer:x?}; its device got {:x?}", oracle.machine().apic_call)
+        },
+    },
+    Difference {
+        name: "capability words after setup",
+        input: "setup; CR4 fixed-1 (MSR 0x489) is 0x2000 by then; exit report, move of 0x20 to CR4",
+        document: "by the words kept from setup: CR4 0x2020",
+        original: || {
+            let mut oracle = ready();
+            let mut capabilities = usual_setup().capabilities;
+            capabilities.cr4_fixed1 = 0x2000;
+            oracle.store_capabilities(&capabilities);
+            let mut report = report(&mut oracle, 28);
+            (report.qualification, report.registers[0]) = (4, 0x20);
+            let text = exit(&mut oracle, &report);
+            format!("{text}; {}", fields(&mut oracle, &[0x6804]))
+        },
+    },
+    Difference {
+        name: "unbind",
+        input: "an entry with host stack 0x7000, exit report, reason 12; unbind; an entry with host stack 0x9000",
+        document: "there is no unbind: the second entry resumes, and host RSP stays 0x7000",
+        original: || {
+            let (text, mut oracle) = exit_with(12, |_| ());
+            oracle.bare(access::unbind).expect("unbind");
+            let entry = failure(oracle.enter(0x9000));
+            format!("{text}; entry {entry}; {}", fields(&mut oracle, &[0x6C14]))
         },
     },
     Difference {

@@ -61,6 +61,10 @@ pub fn setup(vcpu: &mut VmxVcpu, entry: u64, ept_root: u64) -> AxResult {
     <VmxVcpu as AxArchVCpu>::setup(vcpu, ())
 }
 
+pub fn unbind(vcpu: &mut VmxVcpu) -> AxResult {
+    <VmxVcpu as AxArchVCpu>::unbind(vcpu)
+}
+
 pub fn inject_interrupt(vcpu: &mut VmxVcpu, vector: u64) -> AxResult {
     <VmxVcpu as AxArchVCpu>::inject_interrupt(vcpu, vector as usize)
 }

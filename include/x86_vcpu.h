@@ -9,7 +9,8 @@
  *
  * The functions keep nothing between calls and allocate nothing. Of the program that the archive is linked into they need memcpy,
  * memmove and memset. Their code uses the XMM registers: a host that leaves the guest's in the processor saves them before a call
- * and loads them again before it enters.
+ * and loads them again before it enters. It also uses the red zone, the 128 bytes below the stack pointer (System V ABI): what interrupts
+ * a call must not write there, so a kernel has interrupts off during a call or takes them, NMIs too, on another stack.
  *
  * A yes/no argument is a byte: 1 is yes, 0 is no, and any other value is refused by VCPU_REFUSED_BYTES.
  */
@@ -23,13 +24,16 @@
 extern "C" {
 #endif
 
+/* The kit that built the archive, as `rt version` prints it. */
+#define VCPU_KIT "rattle-kit-5b logic 064da1ca440f63e7"
+
 /* ---- Numbers of refusals ---- */
 
 /* The session is in another phase than the call needs. */
 #define VCPU_REFUSED_PHASE 1
 /*
- * A buffer has another length than the function asks for, a yes/no argument is neither 0 nor 1, or the bytes are no record: its phase is
- * above 4, more than 64 events wait, it has more held entries than entries, or one of its yes/no bytes is neither 0 nor 1.
+ * A buffer has another length than the function asks for, a yes/no argument (of a call or in the block of setup) is neither 0 nor 1, or the bytes are
+ * no record: its phase is above 4, more than 64 events wait, it has more held entries than entries, or its byte launched is neither 0 nor 1.
  */
 #define VCPU_REFUSED_BYTES 2
 /* Fields: no such encoding; a write of a read-only field; a value wider than the field. */
@@ -40,7 +44,10 @@ extern "C" {
 #define VCPU_REFUSED_PAIR 6
 /* Control word: a bit is to be both set and cleared. */
 #define VCPU_REFUSED_SET_AND_CLEAR 7
-/* Control word and setup: a bit to be set is not in allowed-1. Reports: a move to CR0 turns paging on, and entry control bit 9 is not in allowed-1. */
+/*
+ * Control word and setup: a bit to be set is not in allowed-1. Reports: a move to CR0 whose value has PG while EFER.LME and EFER.LMA are not both set,
+ * with paging on or off before it, and entry control bit 9 is not in allowed-1.
+ */
 #define VCPU_REFUSED_SET 8
 /* Control word and setup: a bit to be cleared is in allowed-0. */
 #define VCPU_REFUSED_CLEAR 9
@@ -48,7 +55,6 @@ extern "C" {
 #define VCPU_REFUSED_PORT 10
 /* MSRs: outside 0 to 0x1FFF and 0xC0000000 to 0xC0001FFF. */
 #define VCPU_REFUSED_MSR 11
-
 /* Interrupts: vector 0 or above 255. */
 #define VCPU_REFUSED_VECTOR 12
 /* Events: 64 events wait already. */
@@ -82,8 +88,10 @@ extern "C" {
 #define VCPU_FRAME_LENGTH 4096
 
 /* ---- Layout of a record ----
- * Nothing lies between the parts, and numbers stand least significant byte first. The functions below read and write every part; the offsets
- * are for tools that keep or show records.
+ * Nothing lies between the parts, and numbers stand least significant byte first. The registers may be read and written in place, by VCPU_OFFSET_REGS:
+ * every content of their 128 bytes is a record's, and 15 single calls take longer than an entry and a report. Fields have vcpu_read_field and
+ * vcpu_write_field, the phase and the counts vcpu_get_counts. No function hands out the waiting events, the kept pairs and the fixed words: their
+ * offsets are for tools that keep or show records.
  */
 
 /* Where the session stands: phase (1 byte), launched (1, yes/no), accepted entries (4), entries that held an event (4). */
@@ -91,14 +99,17 @@ extern "C" {
 #define VCPU_OFFSET_LAUNCHED 1
 #define VCPU_OFFSET_ENTRIES 2
 #define VCPU_OFFSET_HELD 6
-/* Sixteen registers of 8 bytes, in the order of their encoding: RAX RCX RDX RBX (unused) RBP RSI RDI R8 .. R15. */
+/* Sixteen registers of 8 bytes, in the order of their encoding: RAX RCX RDX RBX (unused: RSP is a field) RBP RSI RDI R8 .. R15. */
 #define VCPU_OFFSET_REGS 10
 /* The fields by width, each group by ascending encoding: 17 of 2 bytes, 50 of 4, 41 of 8, 46 natural ones of 8. */
 #define VCPU_OFFSET_W16 138
 #define VCPU_OFFSET_W32 172
 #define VCPU_OFFSET_W64 372
 #define VCPU_OFFSET_NATURAL 700
-/* The queue, its front first: how many events wait (1), vectors (64), whether each has an error code (8: bit i for place i), codes (64 of 4). */
+/*
+ * The queue, its front first: how many events wait (1), vectors (64), whether each has an error code (one number of 8 bytes: bit i for place i), codes
+ * (64 of 4).
+ */
 #define VCPU_OFFSET_WAITING 1068
 #define VCPU_OFFSET_VECTORS 1069
 #define VCPU_OFFSET_CODED 1133
@@ -120,11 +131,13 @@ extern "C" {
 /* ---- Sessions ----
  * A record is tested whole before anything else: every function that takes one answers VCPU_REFUSED_BYTES first.
  *
- * The record holds the values of the VMCS fields and the guest's registers; the host carries them to the processor. After vcpu_setup it writes
- * the 93 fields that setup writes (crates/vcpu_setup/specs/Writes.antt). After vcpu_entry: at the first entry host RSP (0x6C14); for a held event
- * the primary controls (0x4002); for a written one 0x4016, 0x4018 and 0x401A. After vcpu_exit_report: RIP (0x681E); at reason 7 the primary
- * controls; at reason 52 the preemption timer (0x482E); at reason 28 CR0 or CR4, its read shadow and its mask (0x6800, 0x6004, 0x6000 or 0x6804,
- * 0x6006, 0x6002), EFER (0x2806) and the entry controls (0x4012).
+ * The record holds the values of the VMCS fields and the guest's registers; the host carries them to the processor. Before an entry it loads all
+ * registers; an exit report brings them back. Fields it writes (VMWRITE, with the value that vcpu_read_field gives) as follows.
+ * After vcpu_setup: those of VCPU_SETUP_FIELDS.
+ * After vcpu_entry: at the first entry host RSP (0x6C14); for a held event the primary controls (0x4002); for a written one 0x4016, 0x4018 and 0x401A.
+ * After vcpu_exit_report: RIP (0x681E); at reason 7 the primary controls; at reason 52 the preemption timer (0x482E); at reason 28 CR0 or CR4, its read
+ * shadow and its mask (0x6800, 0x6004, 0x6000 or 0x6804, 0x6006, 0x6002), EFER (0x2806) and the entry controls (0x4012).
+ * After vcpu_write_field: the field itself.
  */
 
 /*
@@ -188,6 +201,107 @@ uint32_t vcpu_new(uint8_t *record, size_t length, uint8_t *a, size_t a_length, u
  */
 uint32_t vcpu_setup(uint8_t *record, size_t length, const uint8_t *block, size_t block_length, uint8_t *a, size_t a_length, uint8_t *b,
                     size_t b_length, uint8_t *msr, size_t msr_length);
+
+/*
+ * The 93 fields that setup writes, ascending: the enum and the name of each in the Rust, and its encoding. An array of the encodings:
+ *
+ *     #define ENCODING(group, name, encoding) encoding,
+ *     static const uint64_t setup_fields[] = {VCPU_SETUP_FIELDS(ENCODING)};
+ */
+#define VCPU_SETUP_FIELDS(F)                                    \
+    F(VmcsGuest16, ES_SELECTOR, 0x0800)                         \
+    F(VmcsGuest16, CS_SELECTOR, 0x0802)                         \
+    F(VmcsGuest16, SS_SELECTOR, 0x0804)                         \
+    F(VmcsGuest16, DS_SELECTOR, 0x0806)                         \
+    F(VmcsGuest16, FS_SELECTOR, 0x0808)                         \
+    F(VmcsGuest16, GS_SELECTOR, 0x080A)                         \
+    F(VmcsGuest16, LDTR_SELECTOR, 0x080C)                       \
+    F(VmcsGuest16, TR_SELECTOR, 0x080E)                         \
+    F(VmcsHost16, ES_SELECTOR, 0x0C00)                          \
+    F(VmcsHost16, CS_SELECTOR, 0x0C02)                          \
+    F(VmcsHost16, SS_SELECTOR, 0x0C04)                          \
+    F(VmcsHost16, DS_SELECTOR, 0x0C06)                          \
+    F(VmcsHost16, FS_SELECTOR, 0x0C08)                          \
+    F(VmcsHost16, GS_SELECTOR, 0x0C0A)                          \
+    F(VmcsHost16, TR_SELECTOR, 0x0C0C)                          \
+    F(VmcsControl64, IO_BITMAP_A_ADDR, 0x2000)                  \
+    F(VmcsControl64, IO_BITMAP_B_ADDR, 0x2002)                  \
+    F(VmcsControl64, MSR_BITMAPS_ADDR, 0x2004)                  \
+    F(VmcsControl64, EPTP, 0x201A)                              \
+    F(VmcsGuest64, LINK_PTR, 0x2800)                            \
+    F(VmcsGuest64, IA32_DEBUGCTL, 0x2802)                       \
+    F(VmcsGuest64, IA32_PAT, 0x2804)                            \
+    F(VmcsGuest64, IA32_EFER, 0x2806)                           \
+    F(VmcsHost64, IA32_PAT, 0x2C00)                             \
+    F(VmcsHost64, IA32_EFER, 0x2C02)                            \
+    F(VmcsControl32, PINBASED_EXEC_CONTROLS, 0x4000)            \
+    F(VmcsControl32, PRIMARY_PROCBASED_EXEC_CONTROLS, 0x4002)   \
+    F(VmcsControl32, EXCEPTION_BITMAP, 0x4004)                  \
+    F(VmcsControl32, CR3_TARGET_COUNT, 0x400A)                  \
+    F(VmcsControl32, VMEXIT_CONTROLS, 0x400C)                   \
+    F(VmcsControl32, VMEXIT_MSR_STORE_COUNT, 0x400E)            \
+    F(VmcsControl32, VMEXIT_MSR_LOAD_COUNT, 0x4010)             \
+    F(VmcsControl32, VMENTRY_CONTROLS, 0x4012)                  \
+    F(VmcsControl32, VMENTRY_MSR_LOAD_COUNT, 0x4014)            \
+    F(VmcsControl32, SECONDARY_PROCBASED_EXEC_CONTROLS, 0x401E) \
+    F(VmcsGuest32, ES_LIMIT, 0x4800)                            \
+    F(VmcsGuest32, CS_LIMIT, 0x4802)                            \
+    F(VmcsGuest32, SS_LIMIT, 0x4804)                            \
+    F(VmcsGuest32, DS_LIMIT, 0x4806)                            \
+    F(VmcsGuest32, FS_LIMIT, 0x4808)                            \
+    F(VmcsGuest32, GS_LIMIT, 0x480A)                            \
+    F(VmcsGuest32, LDTR_LIMIT, 0x480C)                          \
+    F(VmcsGuest32, TR_LIMIT, 0x480E)                            \
+    F(VmcsGuest32, GDTR_LIMIT, 0x4810)                          \
+    F(VmcsGuest32, IDTR_LIMIT, 0x4812)                          \
+    F(VmcsGuest32, ES_ACCESS_RIGHTS, 0x4814)                    \
+    F(VmcsGuest32, CS_ACCESS_RIGHTS, 0x4816)                    \
+    F(VmcsGuest32, SS_ACCESS_RIGHTS, 0x4818)                    \
+    F(VmcsGuest32, DS_ACCESS_RIGHTS, 0x481A)                    \
+    F(VmcsGuest32, FS_ACCESS_RIGHTS, 0x481C)                    \
+    F(VmcsGuest32, GS_ACCESS_RIGHTS, 0x481E)                    \
+    F(VmcsGuest32, LDTR_ACCESS_RIGHTS, 0x4820)                  \
+    F(VmcsGuest32, TR_ACCESS_RIGHTS, 0x4822)                    \
+    F(VmcsGuest32, INTERRUPTIBILITY_STATE, 0x4824)              \
+    F(VmcsGuest32, ACTIVITY_STATE, 0x4826)                      \
+    F(VmcsGuest32, IA32_SYSENTER_CS, 0x482A)                    \
+    F(VmcsGuest32, VMX_PREEMPTION_TIMER_VALUE, 0x482E)          \
+    F(VmcsHost32, IA32_SYSENTER_CS, 0x4C00)                     \
+    F(VmcsControlNW, CR0_GUEST_HOST_MASK, 0x6000)               \
+    F(VmcsControlNW, CR4_GUEST_HOST_MASK, 0x6002)               \
+    F(VmcsControlNW, CR0_READ_SHADOW, 0x6004)                   \
+    F(VmcsControlNW, CR4_READ_SHADOW, 0x6006)                   \
+    F(VmcsGuestNW, CR0, 0x6800)                                 \
+    F(VmcsGuestNW, CR3, 0x6802)                                 \
+    F(VmcsGuestNW, CR4, 0x6804)                                 \
+    F(VmcsGuestNW, ES_BASE, 0x6806)                             \
+    F(VmcsGuestNW, CS_BASE, 0x6808)                             \
+    F(VmcsGuestNW, SS_BASE, 0x680A)                             \
+    F(VmcsGuestNW, DS_BASE, 0x680C)                             \
+    F(VmcsGuestNW, FS_BASE, 0x680E)                             \
+    F(VmcsGuestNW, GS_BASE, 0x6810)                             \
+    F(VmcsGuestNW, LDTR_BASE, 0x6812)                           \
+    F(VmcsGuestNW, TR_BASE, 0x6814)                             \
+    F(VmcsGuestNW, GDTR_BASE, 0x6816)                           \
+    F(VmcsGuestNW, IDTR_BASE, 0x6818)                           \
+    F(VmcsGuestNW, DR7, 0x681A)                                 \
+    F(VmcsGuestNW, RSP, 0x681C)                                 \
+    F(VmcsGuestNW, RIP, 0x681E)                                 \
+    F(VmcsGuestNW, RFLAGS, 0x6820)                              \
+    F(VmcsGuestNW, PENDING_DBG_EXCEPTIONS, 0x6822)              \
+    F(VmcsGuestNW, IA32_SYSENTER_ESP, 0x6824)                   \
+    F(VmcsGuestNW, IA32_SYSENTER_EIP, 0x6826)                   \
+    F(VmcsHostNW, CR0, 0x6C00)                                  \
+    F(VmcsHostNW, CR3, 0x6C02)                                  \
+    F(VmcsHostNW, CR4, 0x6C04)                                  \
+    F(VmcsHostNW, FS_BASE, 0x6C06)                              \
+    F(VmcsHostNW, GS_BASE, 0x6C08)                              \
+    F(VmcsHostNW, TR_BASE, 0x6C0A)                              \
+    F(VmcsHostNW, GDTR_BASE, 0x6C0C)                            \
+    F(VmcsHostNW, IDTR_BASE, 0x6C0E)                            \
+    F(VmcsHostNW, IA32_SYSENTER_ESP, 0x6C10)                    \
+    F(VmcsHostNW, IA32_SYSENTER_EIP, 0x6C12)                    \
+    F(VmcsHostNW, RIP, 0x6C16)
 
 /*
  * Queues an event last: its vector and, where coded is 1, its error code (code does not matter where coded is 0).
@@ -255,8 +369,8 @@ uint32_t vcpu_entry(uint8_t *record, size_t length, uint64_t host_stack, uint8_t
 /* VMCALL: RAX, then the arguments RDI, RSI, RDX, RCX, R8, R9. */
 #define VCPU_ANSWER_HYPERCALL 1
 /*
- * IN: port, width in bytes (1, 2 or 4). The host brings the value to RAX (index 0) with vcpu_set_reg_of_index, which writes all of it: for widths
- * 1 and 2 the other bytes are those that RAX had.
+ * IN: port, width in bytes (1, 2 or 4). The host puts the value into RAX, the first register of the record: for widths 1 and 2 the other bytes
+ * stay those that RAX had, for width 4 the upper four are 0.
  */
 #define VCPU_ANSWER_IO_READ 2
 /* OUT: port, width, data. */
@@ -265,7 +379,7 @@ uint32_t vcpu_entry(uint8_t *record, size_t length, uint64_t host_stack, uint8_t
 #define VCPU_ANSWER_SYSTEM_DOWN 4
 /* An interrupt for the host: vector. */
 #define VCPU_ANSWER_EXTERNAL_INTERRUPT 5
-/* RDMSR: all of RCX. WRMSR: all of RCX, EDX:EAX. RIP is not advanced: the host writes the field 0x681E. */
+/* RDMSR: all of RCX; the host puts the value into RAX and RDX. WRMSR: all of RCX, EDX:EAX. RIP is not advanced: the host writes the field 0x681E. */
 #define VCPU_ANSWER_SYS_REG_READ 6
 #define VCPU_ANSWER_SYS_REG_WRITE 7
 /* RDMSR of an APIC register: MSR. The session waits for vcpu_apic_value. WRMSR of one: MSR, EDX:EAX. */
@@ -372,6 +486,33 @@ uint32_t vcpu_set_io_intercept_of_range(uint8_t *a, size_t a_length, uint8_t *b,
 uint32_t vcpu_set_read_intercept(uint8_t *frame, size_t length, uint32_t msr, uint8_t intercept);
 uint32_t vcpu_set_write_intercept(uint8_t *frame, size_t length, uint32_t msr, uint8_t intercept);
 uint32_t vcpu_set_msr_intercept_of_range(uint8_t *frame, size_t length, uint32_t msr, uint8_t intercept);
+
+/* ---- Stack ----
+ * The bytes of stack that each call needs at most: those below the caller's stack pointer, the return address and the red zone among them, the caller's
+ * arguments not. Measured over accepted and refused calls (tests/c/stack.c) and rounded up to a multiple of 64. The host's memcpy, memmove and
+ * memset are in it with their return address alone.
+ */
+#define VCPU_STACK(F)                       \
+    F(vcpu_new, 64)                         \
+    F(vcpu_setup, 1216)                     \
+    F(vcpu_queue_event, 64)                 \
+    F(vcpu_inject_interrupt, 64)            \
+    F(vcpu_entry, 128)                      \
+    F(vcpu_exit_report, 448)                \
+    F(vcpu_apic_value, 64)                  \
+    F(vcpu_read_field, 128)                 \
+    F(vcpu_write_field, 128)                \
+    F(vcpu_get_reg_of_index, 64)            \
+    F(vcpu_set_reg_of_index, 64)            \
+    F(vcpu_get_counts, 64)                  \
+    F(vcpu_get_cpu_mode, 64)                \
+    F(vcpu_get_ptw_info, 64)                \
+    F(vcpu_gla2gva, 64)                     \
+    F(vcpu_set_control, 64)                 \
+    F(vcpu_set_io_intercept_of_range, 128)  \
+    F(vcpu_set_read_intercept, 64)          \
+    F(vcpu_set_write_intercept, 64)         \
+    F(vcpu_set_msr_intercept_of_range, 128)
 
 #ifdef __cplusplus
 }

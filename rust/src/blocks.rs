@@ -16,15 +16,21 @@ impl Writer<'_> {
     }
 
     fn u16s(&mut self, xs: &[u16]) {
-        xs.iter().for_each(|x| self.put(&x.to_le_bytes()));
+        for x in xs {
+            self.put(&x.to_le_bytes());
+        }
     }
 
     fn u32s(&mut self, xs: &[u32]) {
-        xs.iter().for_each(|x| self.put(&x.to_le_bytes()));
+        for x in xs {
+            self.put(&x.to_le_bytes());
+        }
     }
 
     fn u64s(&mut self, xs: &[u64]) {
-        xs.iter().for_each(|x| self.put(&x.to_le_bytes()));
+        for x in xs {
+            self.put(&x.to_le_bytes());
+        }
     }
 }
 
@@ -70,6 +76,8 @@ pub struct Setup {
 }
 
 impl Setup {
+    /// The block that the archive takes.
+    #[must_use]
     pub fn to_bytes(&self) -> [u8; SETUP_LENGTH] {
         let h = &self.host;
         let mut bytes = [0; SETUP_LENGTH];
@@ -81,7 +89,7 @@ impl Setup {
         w.u64s(&[h.tr_base, h.gdtr_base, h.idtr_base, h.rip]);
         w.u64s(&[self.entry, self.guest_pat, self.ept_root, self.io_bitmap_a, self.io_bitmap_b, self.msr_bitmaps]);
         w.u64s(&self.msrs);
-        w.put(&[self.rdtscp as u8, self.invpcid as u8, self.xsaves as u8]);
+        w.put(&[u8::from(self.rdtscp), u8::from(self.invpcid), u8::from(self.xsaves)]);
         bytes
     }
 }
@@ -112,6 +120,8 @@ pub struct Report {
 }
 
 impl Report {
+    /// The block that the archive takes.
+    #[must_use]
     pub fn to_bytes(&self) -> [u8; REPORT_LENGTH] {
         let mut bytes = [0; REPORT_LENGTH];
         let mut w = Writer { bytes: &mut bytes, at: 0 };

@@ -1,4 +1,4 @@
-//! The functions of include/x86_vcpu.h. A buffer is a pointer and its length; each function answers 0 or the number of the refusal.
+//! The functions of `include/x86_vcpu.h`. A buffer is a pointer and its length; each function answers 0 or the number of the refusal.
 
 extern "C" {
     pub fn vcpu_new(record: *mut u8, length: usize, a: *mut u8, a_length: usize, b: *mut u8, b_length: usize, msr: *mut u8, msr_length: usize) -> u32;

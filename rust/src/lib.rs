@@ -1,28 +1,34 @@
 //! The proved core, for a hypervisor in Rust: the C interface declared (`ffi`), and a safe wrapper over it.
 //!
-//! A `Session` holds the record's bytes and `Frames` the three intercept frames. Every call answers the core's refusal by its number; a refused
-//! call changes nothing.
+//! A [`Session`] holds the record's bytes and [`Frames`] the three intercept frames. A refused call answers its [`Refusal`] and changes nothing.
 //!
-//! Every `unsafe` block below is one call of the archive. What include/x86_vcpu.h asks of a caller holds in each: a pointer and its length are those of one
+//! The host carries fields and registers between the session and the processor, as `include/x86_vcpu.h` says under "Sessions": after [`Session::setup`] the
+//! fields of [`Field::SETUP`], before an entry all of [`Session::registers`].
+//!
+//! Every `unsafe` block below is one call of the archive. What `include/x86_vcpu.h` asks of a caller holds in each: a pointer and its length are those of one
 //! array that is borrowed for the call, a result is a local variable, and no two of them overlap.
 #![no_std]
 
 pub mod blocks;
 pub mod ffi;
+pub mod fields;
+mod refusal;
 
 pub use blocks::{HostWords, Report, Setup};
-use core::num::NonZeroU32;
+pub use refusal::Refusal;
+
+use core::ops::BitOr;
+use refusal::{accepted, outcome};
 
 pub const RECORD_LENGTH: usize = 1469;
 pub const FRAME_LENGTH: usize = 4096;
 
-/// The number of a refusal (include/x86_vcpu.h, VCPU_REFUSED_..).
-#[derive(Clone, Copy, PartialEq, Eq, Debug)]
-pub struct Refusal(pub NonZeroU32);
+/// Where the registers lie in a record.
+const REGISTERS: usize = 10;
 
-fn outcome(number: u32) -> Result<(), Refusal> {
-    NonZeroU32::new(number).map_or(Ok(()), |number| Err(Refusal(number)))
-}
+/// A field of the VMCS by its encoding. The names are in [`fields`].
+#[derive(Clone, Copy, PartialEq, Eq, PartialOrd, Ord, Hash, Debug)]
+pub struct Field(pub u64);
 
 /// One page of intercepts.
 #[derive(Clone)]
@@ -39,26 +45,46 @@ pub struct Frames {
 
 impl Frames {
     /// Frames that intercept nothing.
+    #[must_use]
     pub const fn new() -> Frames {
         Frames { io_a: Frame([0; FRAME_LENGTH]), io_b: Frame([0; FRAME_LENGTH]), msr: Frame([0; FRAME_LENGTH]) }
     }
 
+    /// Sets or clears the intercepts of `count` ports from `port_base` on. A count of 0 is accepted and changes nothing.
+    ///
+    /// # Errors
+    ///
+    /// [`Refusal::Port`].
     pub fn set_io_intercept_of_range(&mut self, port_base: u32, count: u32, intercept: bool) -> Result<(), Refusal> {
         let (a, b) = (&mut self.io_a.0, &mut self.io_b.0);
-        outcome(unsafe { ffi::vcpu_set_io_intercept_of_range(a.as_mut_ptr(), a.len(), b.as_mut_ptr(), b.len(), port_base, count, intercept as u8) })
+        outcome(unsafe { ffi::vcpu_set_io_intercept_of_range(a.as_mut_ptr(), a.len(), b.as_mut_ptr(), b.len(), port_base, count, u8::from(intercept)) })
     }
 
+    /// Sets or clears the intercept of reads of one MSR.
+    ///
+    /// # Errors
+    ///
+    /// [`Refusal::Msr`].
     pub fn set_read_intercept(&mut self, msr: u32, intercept: bool) -> Result<(), Refusal> {
-        outcome(unsafe { ffi::vcpu_set_read_intercept(self.msr.0.as_mut_ptr(), FRAME_LENGTH, msr, intercept as u8) })
+        outcome(unsafe { ffi::vcpu_set_read_intercept(self.msr.0.as_mut_ptr(), FRAME_LENGTH, msr, u8::from(intercept)) })
     }
 
+    /// Sets or clears the intercept of writes of one MSR.
+    ///
+    /// # Errors
+    ///
+    /// [`Refusal::Msr`].
     pub fn set_write_intercept(&mut self, msr: u32, intercept: bool) -> Result<(), Refusal> {
-        outcome(unsafe { ffi::vcpu_set_write_intercept(self.msr.0.as_mut_ptr(), FRAME_LENGTH, msr, intercept as u8) })
+        outcome(unsafe { ffi::vcpu_set_write_intercept(self.msr.0.as_mut_ptr(), FRAME_LENGTH, msr, u8::from(intercept)) })
     }
 
-    /// Reads and writes of one MSR.
+    /// Sets or clears the intercepts of reads and of writes of one MSR.
+    ///
+    /// # Errors
+    ///
+    /// [`Refusal::Msr`].
     pub fn set_msr_intercept_of_range(&mut self, msr: u32, intercept: bool) -> Result<(), Refusal> {
-        outcome(unsafe { ffi::vcpu_set_msr_intercept_of_range(self.msr.0.as_mut_ptr(), FRAME_LENGTH, msr, intercept as u8) })
+        outcome(unsafe { ffi::vcpu_set_msr_intercept_of_range(self.msr.0.as_mut_ptr(), FRAME_LENGTH, msr, u8::from(intercept)) })
     }
 }
 
@@ -71,9 +97,23 @@ impl Default for Frames {
 /// What an entry does with the front of the queue.
 #[derive(Clone, Copy, PartialEq, Eq, Debug)]
 pub enum Event {
+    /// No event waits.
     None,
+    /// It is held back, and interrupt-window exiting is set.
     Held,
+    /// Its word is written.
     Written,
+}
+
+impl Event {
+    fn of(number: u8) -> Event {
+        match number {
+            0 => Event::None,
+            1 => Event::Held,
+            2 => Event::Written,
+            _ => unknown(number.into()),
+        }
+    }
 }
 
 /// The entry that the host then makes.
@@ -87,35 +127,49 @@ pub struct Entry {
 /// What the host is to do after an exit.
 #[derive(Clone, Copy, PartialEq, Eq, Debug)]
 pub enum Answer {
+    /// The exit is dealt with: the next entry may follow.
     Nothing,
+    /// VMCALL: RAX, and RDI, RSI, RDX, RCX, R8, R9.
     Hypercall { nr: u64, args: [u64; 6] },
+    /// IN. The host puts the value into RAX: for widths 1 and 2 the other bytes stay, for width 4 the upper four are 0.
     IoRead { port: u16, width: u8 },
+    /// OUT.
     IoWrite { port: u16, width: u8, data: u64 },
+    /// The guest turns its machine off.
     SystemDown,
+    /// An interrupt for the host.
     ExternalInterrupt { vector: u8 },
+    /// RDMSR. RIP is not advanced: the host puts the value into RAX and RDX, and writes RIP.
     SysRegRead { addr: u64 },
+    /// WRMSR. RIP is not advanced: the host writes it.
     SysRegWrite { addr: u64, value: u64 },
+    /// RDMSR of an APIC register. The session waits for [`Session::apic_value`].
     ApicRead { msr: u32 },
+    /// WRMSR of an APIC register.
     ApicWrite { msr: u32, value: u64 },
+    /// An exit that the core does not deal with.
     Halt,
+    /// The entry failed: why is in the fields of exit reason and qualification. The session is ended.
     FailEntry,
 }
 
 impl Answer {
     fn of(w: [u64; 8]) -> Answer {
+        let (port, width, msr) = ((w[1] & 0xFFFF) as u16, (w[2] & 0xFF) as u8, (w[1] & 0xFFFF_FFFF) as u32);
         match w[0] {
             0 => Answer::Nothing,
             1 => Answer::Hypercall { nr: w[1], args: [w[2], w[3], w[4], w[5], w[6], w[7]] },
-            2 => Answer::IoRead { port: w[1] as u16, width: w[2] as u8 },
-            3 => Answer::IoWrite { port: w[1] as u16, width: w[2] as u8, data: w[3] },
+            2 => Answer::IoRead { port, width },
+            3 => Answer::IoWrite { port, width, data: w[3] },
             4 => Answer::SystemDown,
-            5 => Answer::ExternalInterrupt { vector: w[1] as u8 },
+            5 => Answer::ExternalInterrupt { vector: (w[1] & 0xFF) as u8 },
             6 => Answer::SysRegRead { addr: w[1] },
             7 => Answer::SysRegWrite { addr: w[1], value: w[2] },
-            8 => Answer::ApicRead { msr: w[1] as u32 },
-            9 => Answer::ApicWrite { msr: w[1] as u32, value: w[2] },
+            8 => Answer::ApicRead { msr },
+            9 => Answer::ApicWrite { msr, value: w[2] },
             10 => Answer::Halt,
-            _ => Answer::FailEntry,
+            11 => Answer::FailEntry,
+            number => unknown(number),
         }
     }
 }
@@ -126,10 +180,25 @@ pub enum Phase {
     Fresh,
     Ready,
     Running,
+    /// An APIC register is read: [`Session::apic_value`] brings its value.
     Waiting,
     Ended,
 }
 
+impl Phase {
+    fn of(number: u8) -> Phase {
+        match number {
+            0 => Phase::Fresh,
+            1 => Phase::Ready,
+            2 => Phase::Running,
+            3 => Phase::Waiting,
+            4 => Phase::Ended,
+            _ => unknown(number.into()),
+        }
+    }
+}
+
+/// Where a session stands, how many events wait, its accepted entries, and those that held an event.
 #[derive(Clone, Copy, PartialEq, Eq, Debug)]
 pub struct Counts {
     pub phase: Phase,
@@ -139,14 +208,85 @@ pub struct Counts {
     pub held: u32,
 }
 
+/// The mode of the guest's CPU.
+#[derive(Clone, Copy, PartialEq, Eq, Debug)]
+pub enum VmCpuMode {
+    Real,
+    Protected,
+    Compatibility,
+    Mode64,
+}
+
+impl VmCpuMode {
+    fn of(number: u32) -> VmCpuMode {
+        match number {
+            0 => VmCpuMode::Real,
+            1 => VmCpuMode::Protected,
+            2 => VmCpuMode::Compatibility,
+            3 => VmCpuMode::Mode64,
+            _ => unknown(number.into()),
+        }
+    }
+}
+
+/// The yes/no values of a page-walk reading.
+#[derive(Clone, Copy, PartialEq, Eq, Default, Debug)]
+pub struct WalkFlags(u32);
+
+impl WalkFlags {
+    /// The access is the user's: SS has DPL 3.
+    pub const USER: WalkFlags = WalkFlags(1);
+    /// A write. A reading never has it: the host knows its access.
+    pub const WRITE: WalkFlags = WalkFlags(2);
+    /// An instruction fetch. A reading never has it.
+    pub const FETCH: WalkFlags = WalkFlags(4);
+    /// CR4.PSE with 2 levels, else set.
+    pub const PSE: WalkFlags = WalkFlags(8);
+    /// CR0.WP.
+    pub const WP: WalkFlags = WalkFlags(16);
+    /// EFER.NXE, clear with 2 levels.
+    pub const NXE: WalkFlags = WalkFlags(32);
+    /// CR4.SMAP.
+    pub const SMAP: WalkFlags = WalkFlags(64);
+    /// CR4.SMEP.
+    pub const SMEP: WalkFlags = WalkFlags(128);
+
+    /// All flags of `other` are set.
+    #[must_use]
+    pub const fn contains(self, other: WalkFlags) -> bool {
+        self.0 & other.0 == other.0
+    }
+
+    /// The flags as `VCPU_WALK_..` of the header has them.
+    #[must_use]
+    pub const fn bits(self) -> u32 {
+        self.0
+    }
+}
+
+impl BitOr for WalkFlags {
+    type Output = WalkFlags;
+
+    fn bitor(self, other: WalkFlags) -> WalkFlags {
+        WalkFlags(self.0 | other.0)
+    }
+}
+
 /// What a walk of the guest's page tables starts from.
 #[derive(Clone, Copy, PartialEq, Eq, Debug)]
 pub struct PageWalk {
+    /// CR3.
     pub top_entry: u64,
+    /// How many levels: 0 without paging, 2, 3 or 4.
     pub level: u8,
+    /// How many bits of an address each level takes: 0, 10 or 9.
     pub width: u8,
-    /// VCPU_WALK_.. of the header.
-    pub flags: u32,
+    pub flags: WalkFlags,
+}
+
+/// The archive is of another version than this crate.
+fn unknown(number: u64) -> ! {
+    unreachable!("the archive answers {number}, which include/x86_vcpu.h does not have there")
 }
 
 /// The session of one virtual CPU: its record.
@@ -158,17 +298,21 @@ impl Session {
     pub fn new(frames: &mut Frames) -> Session {
         let mut session = Session([0; RECORD_LENGTH]);
         let (a, b, m) = (&mut frames.io_a.0, &mut frames.io_b.0, &mut frames.msr.0);
-        let number = unsafe { ffi::vcpu_new(session.at(), RECORD_LENGTH, a.as_mut_ptr(), a.len(), b.as_mut_ptr(), b.len(), m.as_mut_ptr(), m.len()) };
-        debug_assert_eq!(number, 0, "all lengths are right");
+        accepted(unsafe { ffi::vcpu_new(session.at(), RECORD_LENGTH, a.as_mut_ptr(), a.len(), b.as_mut_ptr(), b.len(), m.as_mut_ptr(), m.len()) });
         session
     }
 
-    /// The session of kept bytes, where they are a record.
+    /// The session of kept bytes.
+    ///
+    /// # Errors
+    ///
+    /// [`Refusal::Bytes`], the bytes are no record.
     pub fn from_bytes(bytes: [u8; RECORD_LENGTH]) -> Result<Session, Refusal> {
         let session = Session(bytes);
-        session.counts().map(|_| session)
+        outcome(session.read_counts().0).map(|()| session)
     }
 
+    #[must_use]
     pub fn as_bytes(&self) -> &[u8; RECORD_LENGTH] {
         &self.0
     }
@@ -177,6 +321,11 @@ impl Session {
         self.0.as_mut_ptr()
     }
 
+    /// Sets a fresh session up and adds its intercepts to the frames. The host then writes the fields of [`Field::SETUP`] to the processor.
+    ///
+    /// # Errors
+    ///
+    /// [`Refusal::Phase`] (not fresh), [`Refusal::Pair`], [`Refusal::Set`], [`Refusal::Clear`].
     pub fn setup(&mut self, setup: &Setup, frames: &mut Frames) -> Result<(), Refusal> {
         let block = setup.to_bytes();
         let (a, b, m) = (&mut frames.io_a.0, &mut frames.io_b.0, &mut frames.msr.0);
@@ -185,86 +334,161 @@ impl Session {
         })
     }
 
+    /// Queues an event last.
+    ///
+    /// # Errors
+    ///
+    /// [`Refusal::Phase`] (ended), [`Refusal::Full`].
     pub fn queue_event(&mut self, vector: u8, code: Option<u32>) -> Result<(), Refusal> {
-        outcome(unsafe { ffi::vcpu_queue_event(self.at(), RECORD_LENGTH, vector, code.is_some() as u8, code.unwrap_or(0)) })
+        outcome(unsafe { ffi::vcpu_queue_event(self.at(), RECORD_LENGTH, vector, u8::from(code.is_some()), code.unwrap_or(0)) })
     }
 
+    /// Queues an interrupt without an error code.
+    ///
+    /// # Errors
+    ///
+    /// [`Refusal::Phase`] (ended), [`Refusal::Vector`], [`Refusal::Full`].
     pub fn inject_interrupt(&mut self, vector: u64) -> Result<(), Refusal> {
         outcome(unsafe { ffi::vcpu_inject_interrupt(self.at(), RECORD_LENGTH, vector) })
     }
 
+    /// An entry into the guest, which the host then makes. `host_stack` is stored at the first entry only.
+    ///
+    /// # Errors
+    ///
+    /// [`Refusal::Phase`] (not ready), [`Refusal::Count`].
     pub fn entry(&mut self, host_stack: u64) -> Result<Entry, Refusal> {
         let (mut resumed, mut event) = (0, 0);
-        outcome(unsafe { ffi::vcpu_entry(self.at(), RECORD_LENGTH, host_stack, &mut resumed, &mut event) })?;
-        let event = match event {
-            0 => Event::None,
-            1 => Event::Held,
-            _ => Event::Written,
-        };
-        Ok(Entry { resumed: resumed == 1, event })
+        outcome(unsafe { ffi::vcpu_entry(self.at(), RECORD_LENGTH, host_stack, &raw mut resumed, &raw mut event) })?;
+        Ok(Entry { resumed: resumed == 1, event: Event::of(event) })
     }
 
+    /// Takes what an exit reports and answers what the host is to do.
+    ///
+    /// # Errors
+    ///
+    /// [`Refusal::Phase`] (not running), [`Refusal::Reason`], [`Refusal::OwnedBits`], [`Refusal::Interrupt`], [`Refusal::CrAccess`], [`Refusal::Xcr`],
+    /// [`Refusal::Xcr0`], [`Refusal::ApicAccess`], [`Refusal::Sum`], [`Refusal::Set`]. The session still runs then.
     pub fn exit_report(&mut self, report: &Report) -> Result<Answer, Refusal> {
         let (block, mut words) = (report.to_bytes(), [0; 8]);
         outcome(unsafe { ffi::vcpu_exit_report(self.at(), RECORD_LENGTH, block.as_ptr(), block.len(), words.as_mut_ptr()) })?;
         Ok(Answer::of(words))
     }
 
+    /// Brings the value of the APIC register that the guest reads.
+    ///
+    /// # Errors
+    ///
+    /// [`Refusal::Phase`] (not waiting).
     pub fn apic_value(&mut self, value: u64) -> Result<(), Refusal> {
         outcome(unsafe { ffi::vcpu_apic_value(self.at(), RECORD_LENGTH, value) })
     }
 
-    pub fn read_field(&self, encoding: u64) -> Result<u64, Refusal> {
+    /// Reads a field, in any phase.
+    ///
+    /// # Errors
+    ///
+    /// [`Refusal::Encoding`], for no field of [`Field::ALL`].
+    pub fn read_field(&self, field: Field) -> Result<u64, Refusal> {
         let mut value = 0;
-        outcome(unsafe { ffi::vcpu_read_field(self.0.as_ptr(), RECORD_LENGTH, encoding, &mut value) }).map(|()| value)
+        outcome(unsafe { ffi::vcpu_read_field(self.0.as_ptr(), RECORD_LENGTH, field.0, &raw mut value) }).map(|()| value)
     }
 
-    pub fn write_field(&mut self, encoding: u64, value: u64) -> Result<(), Refusal> {
-        outcome(unsafe { ffi::vcpu_write_field(self.at(), RECORD_LENGTH, encoding, value) })
+    /// Writes a field, in any phase.
+    ///
+    /// # Errors
+    ///
+    /// [`Refusal::Encoding`], [`Refusal::ReadOnly`], [`Refusal::Width`].
+    pub fn write_field(&mut self, field: Field, value: u64) -> Result<(), Refusal> {
+        outcome(unsafe { ffi::vcpu_write_field(self.at(), RECORD_LENGTH, field.0, value) })
     }
 
+    /// Reads a general-purpose register by its encoding in an instruction, in any phase.
+    ///
+    /// # Errors
+    ///
+    /// [`Refusal::Index`].
     pub fn reg_of_index(&self, index: u64) -> Result<u64, Refusal> {
         let mut value = 0;
-        outcome(unsafe { ffi::vcpu_get_reg_of_index(self.0.as_ptr(), RECORD_LENGTH, index, &mut value) }).map(|()| value)
+        outcome(unsafe { ffi::vcpu_get_reg_of_index(self.0.as_ptr(), RECORD_LENGTH, index, &raw mut value) }).map(|()| value)
     }
 
+    /// Writes a general-purpose register, in any phase.
+    ///
+    /// # Errors
+    ///
+    /// [`Refusal::Index`].
     pub fn set_reg_of_index(&mut self, index: u64, value: u64) -> Result<(), Refusal> {
         outcome(unsafe { ffi::vcpu_set_reg_of_index(self.at(), RECORD_LENGTH, index, value) })
     }
 
-    pub fn counts(&self) -> Result<Counts, Refusal> {
+    /// All registers, in the order of their encoding; place 4 is not used. The core is not called for it.
+    #[must_use]
+    pub fn registers(&self) -> [u64; 16] {
+        core::array::from_fn(|i| {
+            let mut bytes = [0; 8];
+            bytes.copy_from_slice(&self.0[REGISTERS + 8 * i..][..8]);
+            u64::from_le_bytes(bytes)
+        })
+    }
+
+    /// Writes all registers. The core is not called for it.
+    pub fn set_registers(&mut self, registers: &[u64; 16]) {
+        for (bytes, register) in self.0[REGISTERS..][..128].chunks_exact_mut(8).zip(registers) {
+            bytes.copy_from_slice(&register.to_le_bytes());
+        }
+    }
+
+    /// Where the session stands.
+    #[must_use]
+    pub fn counts(&self) -> Counts {
+        let (number, counts) = self.read_counts();
+        accepted(number);
+        counts
+    }
+
+    /// The number of the call, and what it gives where it is accepted.
+    fn read_counts(&self) -> (u32, Counts) {
         let (mut phase, mut launched, mut waiting, mut entries, mut held) = (0, 0, 0, 0, 0);
-        outcome(unsafe { ffi::vcpu_get_counts(self.0.as_ptr(), RECORD_LENGTH, &mut phase, &mut launched, &mut waiting, &mut entries, &mut held) })?;
-        let phase = match phase {
-            0 => Phase::Fresh,
-            1 => Phase::Ready,
-            2 => Phase::Running,
-            3 => Phase::Waiting,
-            _ => Phase::Ended,
+        let number = unsafe {
+            ffi::vcpu_get_counts(self.0.as_ptr(), RECORD_LENGTH, &raw mut phase, &raw mut launched, &raw mut waiting, &raw mut entries, &raw mut held)
         };
-        Ok(Counts { phase, launched: launched == 1, waiting, entries, held })
+        (number, Counts { phase: Phase::of(phase), launched: launched == 1, waiting, entries, held })
     }
 
-    /// 0 real, 1 protected, 2 compatibility, 3 64-bit.
-    pub fn cpu_mode(&self, host_efer: u64) -> Result<u32, Refusal> {
+    /// The mode of the guest's CPU, told by the host's EFER (LMA), the guest's CS access rights and CR0.
+    #[must_use]
+    pub fn cpu_mode(&self, host_efer: u64) -> VmCpuMode {
         let mut mode = 0;
-        outcome(unsafe { ffi::vcpu_get_cpu_mode(self.0.as_ptr(), RECORD_LENGTH, host_efer, &mut mode) }).map(|()| mode)
+        accepted(unsafe { ffi::vcpu_get_cpu_mode(self.0.as_ptr(), RECORD_LENGTH, host_efer, &raw mut mode) });
+        VmCpuMode::of(mode)
     }
 
-    pub fn page_walk(&self) -> Result<PageWalk, Refusal> {
-        let mut walk = PageWalk { top_entry: 0, level: 0, width: 0, flags: 0 };
-        outcome(unsafe { ffi::vcpu_get_ptw_info(self.0.as_ptr(), RECORD_LENGTH, &mut walk.top_entry, &mut walk.level, &mut walk.width, &mut walk.flags) })?;
-        Ok(walk)
+    /// What a walk of the guest's page tables starts from.
+    #[must_use]
+    pub fn page_walk(&self) -> PageWalk {
+        let (mut top_entry, mut level, mut width, mut flags) = (0, 0, 0, 0);
+        accepted(unsafe { ffi::vcpu_get_ptw_info(self.0.as_ptr(), RECORD_LENGTH, &raw mut top_entry, &raw mut level, &raw mut width, &raw mut flags) });
+        PageWalk { top_entry, level, width, flags: WalkFlags(flags) }
     }
 
+    /// A guest address with the base of its code segment added (none in 64-bit mode).
+    ///
+    /// # Errors
+    ///
+    /// [`Refusal::Sum`].
     pub fn gla2gva(&self, host_efer: u64, address: u64) -> Result<u64, Refusal> {
         let mut linear = 0;
-        outcome(unsafe { ffi::vcpu_gla2gva(self.0.as_ptr(), RECORD_LENGTH, host_efer, address, &mut linear) }).map(|()| linear)
+        outcome(unsafe { ffi::vcpu_gla2gva(self.0.as_ptr(), RECORD_LENGTH, host_efer, address, &raw mut linear) }).map(|()| linear)
     }
 }
 
 /// A control word from the halves of its capability MSR.
+///
+/// # Errors
+///
+/// [`Refusal::Pair`], [`Refusal::SetAndClear`], [`Refusal::Set`], [`Refusal::Clear`].
 pub fn set_control(allowed0: u32, allowed1: u32, old: u32, set: u32, clear: u32) -> Result<u32, Refusal> {
     let mut word = 0;
-    outcome(unsafe { ffi::vcpu_set_control(allowed0, allowed1, old, set, clear, &mut word) }).map(|()| word)
+    outcome(unsafe { ffi::vcpu_set_control(allowed0, allowed1, old, set, clear, &raw mut word) }).map(|()| word)
 }

@@ -1,30 +1,52 @@
-//! The wrapper on the archive: one life of a session, and a refusal of each call that has one.
+//! The wrapper on the archive: every function is called, one life of a session is gone through, and each refusal is met or compared with the header.
 
-use x86_vcpu_core::{set_control, Answer, Event, Frames, Phase, Refusal, Report, Session, Setup, RECORD_LENGTH};
+use std::collections::BTreeMap;
+use std::error::Error;
+
+use x86_vcpu_core::fields::{
+    VmcsControl32, VmcsControl64, VmcsControlNW, VmcsGuest16, VmcsGuest32, VmcsGuest64, VmcsGuestNW, VmcsHostNW, VmcsReadOnly32, VmcsReadOnlyNW,
+};
+use x86_vcpu_core::{
+    blocks, ffi, set_control, Answer, Entry, Event, Field, Frames, HostWords, PageWalk, Phase, Refusal, Report, Session, Setup, VmCpuMode, WalkFlags, FRAME_LENGTH,
+    RECORD_LENGTH,
+};
 
 const WORDS: [u64; 13] = [
-    0x0000007F00000016, 0xFFF9FFFE0401E172, 0x01FFFFFF00036DFF, 0x0003FFFF000011FF, 0x80000021, 0xFFFFFFFF, 0x2000, 0x3767FF, 0x55CFEFFF00000000,
-    0x0000007F00000016, 0xFFF9FFFE04006172, 0x01FFFFFF00036DFB, 0x0003FFFF000011FB,
+    0x0000_007F_0000_0016,
+    0xFFF9_FFFE_0401_E172,
+    0x01FF_FFFF_0003_6DFF,
+    0x0003_FFFF_0000_11FF,
+    0x8000_0021,
+    0xFFFF_FFFF,
+    0x2000,
+    0x0037_67FF,
+    0x55CF_EFFF_0000_0000,
+    0x0000_007F_0000_0016,
+    0xFFF9_FFFE_0400_6172,
+    0x01FF_FFFF_0003_6DFB,
+    0x0003_FFFF_0000_11FB,
 ];
 
-fn number(refusal: Refusal) -> u32 {
-    refusal.0.get()
+/// Where the fields lie in a record.
+const FIELDS: std::ops::Range<usize> = 138..1068;
+
+fn setup() -> Setup {
+    Setup { entry: 0x8000, ept_root: 0x1FFF, msrs: WORDS, ..Setup::default() }
 }
 
 fn ready() -> (Session, Frames) {
-    let mut frames = Frames::new();
+    let mut frames = Frames::default();
     let mut session = Session::new(&mut frames);
-    let setup = Setup { entry: 0x8000, ept_root: 0x1FFF, msrs: WORDS, ..Setup::default() };
-    session.setup(&setup, &mut frames).expect("setup");
+    session.setup(&setup(), &mut frames).expect("setup");
     (session, frames)
 }
 
 fn report(session: &Session, reason: u32) -> Report {
     Report {
         reason,
-        rip: session.read_field(0x681E).unwrap(),
-        cr0: session.read_field(0x6800).unwrap(),
-        cr4: session.read_field(0x6804).unwrap(),
+        rip: session.read_field(VmcsGuestNW::RIP).unwrap(),
+        cr0: session.read_field(VmcsGuestNW::CR0).unwrap(),
+        cr4: session.read_field(VmcsGuestNW::CR4).unwrap(),
         rflags: 0x202,
         ..Report::default()
     }
@@ -33,9 +55,9 @@ fn report(session: &Session, reason: u32) -> Report {
 #[test]
 fn setup_gives_the_worked_values() {
     let (session, frames) = ready();
-    assert_eq!(session.read_field(0x6800), Ok(0x30));
-    assert_eq!(session.read_field(0x6000), Ok(0xFFFFFFFF60000020));
-    assert_eq!(session.read_field(0x201A), Ok(0x105E));
+    assert_eq!(session.read_field(VmcsGuestNW::CR0), Ok(0x30));
+    assert_eq!(session.read_field(VmcsControlNW::CR0_GUEST_HOST_MASK), Ok(0xFFFF_FFFF_6000_0020));
+    assert_eq!(session.read_field(VmcsControl64::EPTP), Ok(0x105E));
     assert_eq!(frames.io_a.0[0x604 / 8], 1 << (0x604 % 8));
     let ones: u32 = frames.msr.0.iter().map(|byte| byte.count_ones()).sum();
     assert_eq!(ones, 2 * 65);
@@ -45,49 +67,82 @@ fn setup_gives_the_worked_values() {
 fn setup_refuses_a_processor_without_ept() {
     let mut frames = Frames::new();
     let mut session = Session::new(&mut frames);
-    let mut setup = Setup { msrs: WORDS, ..Setup::default() };
-    setup.msrs[8] = 0x55CFEFFD00000000;
+    let mut arguments = setup();
+    arguments.msrs[8] = 0x55CF_EFFD_0000_0000;
     let before = session.clone();
-    assert_eq!(session.setup(&setup, &mut frames).map_err(number), Err(8));
+    assert_eq!(session.setup(&arguments, &mut frames), Err(Refusal::Set));
     assert_eq!(session, before);
+}
+
+/// A host word, told by its field, is at its place in the block.
+#[test]
+fn the_blocks_have_the_lengths_and_the_order_of_the_header() {
+    let mut frames = Frames::new();
+    let mut session = Session::new(&mut frames);
+    let host = HostWords { rip: 0x1234, cr3: 0x5000, tr: 0x40, ..HostWords::default() };
+    let arguments = Setup { host, rdtscp: true, ..setup() };
+    assert_eq!(arguments.to_bytes().len(), blocks::SETUP_LENGTH);
+    session.setup(&arguments, &mut frames).unwrap();
+    assert_eq!(session.read_field(VmcsHostNW::RIP), Ok(0x1234));
+    assert_eq!(session.read_field(VmcsHostNW::CR3), Ok(0x5000));
+    assert_eq!(session.read_field(VmcsControl32::SECONDARY_PROCBASED_EXEC_CONTROLS), Ok(0x8A));
+    session.entry(0).unwrap();
+    let exit = Report { error_code: 5, ss_rights: 0x60, cpuid: [1, 2, 3, 4], ..report(&session, 10) };
+    assert_eq!(exit.to_bytes().len(), blocks::REPORT_LENGTH);
+    assert_eq!(session.exit_report(&exit), Ok(Answer::Nothing));
+    assert_eq!(session.read_field(VmcsReadOnly32::VMEXIT_INTERRUPTION_ERR_CODE), Ok(5));
+    assert_eq!(session.registers()[..4], [1, 3, 4, 2]);
+    assert!(session.page_walk().flags.contains(WalkFlags::USER));
 }
 
 #[test]
 fn an_interrupt_waits_for_its_window() {
     let (mut session, _) = ready();
     session.inject_interrupt(32).unwrap();
-    let first = session.entry(0x1000).unwrap();
-    assert_eq!((first.resumed, first.event), (false, Event::Held));
+    assert_eq!(session.entry(0x1000), Ok(Entry { resumed: false, event: Event::Held }));
+    assert_eq!(session.read_field(VmcsHostNW::RSP), Ok(0x1000));
     assert_eq!(session.exit_report(&report(&session, 7)), Ok(Answer::Nothing));
-    let second = session.entry(0).unwrap();
-    assert_eq!((second.resumed, second.event), (true, Event::Written));
-    assert_eq!(session.read_field(0x4016), Ok(0x80000020));
-    let counts = session.counts().unwrap();
+    assert_eq!(session.entry(0), Ok(Entry { resumed: true, event: Event::Written }));
+    assert_eq!(session.read_field(VmcsControl32::VMENTRY_INTERRUPTION_INFO_FIELD), Ok(0x8000_0020));
+    let counts = session.counts();
     assert_eq!((counts.phase, counts.entries, counts.held, counts.waiting), (Phase::Running, 2, 1, 0));
+    assert!(counts.launched);
 }
 
 #[test]
-fn an_apic_read_waits_for_its_value() {
-    let (mut session, _) = ready();
-    session.entry(0).unwrap();
+fn every_phase_is_told() {
+    let mut frames = Frames::new();
+    let mut session = Session::new(&mut frames);
+    assert_eq!(session.counts().phase, Phase::Fresh);
+    session.setup(&setup(), &mut frames).unwrap();
+    assert_eq!(session.counts().phase, Phase::Ready);
+    assert_eq!(session.entry(0), Ok(Entry { resumed: false, event: Event::None }));
+    assert_eq!(session.counts().phase, Phase::Running);
     let mut exit = report(&session, 31);
     exit.regs[1] = 0x802;
     assert_eq!(session.exit_report(&exit), Ok(Answer::ApicRead { msr: 0x802 }));
-    assert_eq!(session.entry(0).map_err(number), Err(1));
+    assert_eq!(session.counts().phase, Phase::Waiting);
+    assert_eq!(session.entry(0), Err(Refusal::Phase));
     session.apic_value(0x1_0000_0002).unwrap();
     assert_eq!((session.reg_of_index(0), session.reg_of_index(2)), (Ok(2), Ok(1)));
+    session.entry(0).unwrap();
+    assert_eq!(session.exit_report(&report(&session, 0x8000_0021)), Ok(Answer::FailEntry));
+    assert_eq!(session.counts().phase, Phase::Ended);
+    assert_eq!(session.read_field(VmcsReadOnly32::EXIT_REASON), Ok(0x8000_0021));
+    assert_eq!(session.queue_event(14, Some(2)), Err(Refusal::Phase));
 }
 
 #[test]
 fn every_answer_is_decoded() {
-    let exits: [(u32, u64, u64, u64, Answer); 7] = [
+    let exits: [(u32, u64, u64, u64, Answer); 8] = [
         (18, 0, 5, 6, Answer::Hypercall { nr: 5, args: [0, 0, 0, 6, 0, 0] }),
-        (30, 0x02F80008, 0, 0, Answer::IoRead { port: 0x2F8, width: 1 }),
-        (30, 0x02F80001, 0x12345, 0, Answer::IoWrite { port: 0x2F8, width: 2, data: 0x2345 }),
-        (30, 0x06040001, 0x2000, 0, Answer::SystemDown),
-        (31, 0, 0, 0xC0000080, Answer::SysRegRead { addr: 0xC0000080 }),
+        (30, 0x02F8_0008, 0, 0, Answer::IoRead { port: 0x2F8, width: 1 }),
+        (30, 0x02F8_0001, 0x12345, 0, Answer::IoWrite { port: 0x2F8, width: 2, data: 0x2345 }),
+        (30, 0x0604_0001, 0x2000, 0, Answer::SystemDown),
+        (31, 0, 0, 0xC000_0080, Answer::SysRegRead { addr: 0xC000_0080 }),
         (32, 0, 7, 0xE1, Answer::SysRegWrite { addr: 0xE1, value: 7 }),
         (32, 0, 9, 0x80B, Answer::ApicWrite { msr: 0x80B, value: 9 }),
+        (12, 0, 0, 0, Answer::Halt),
     ];
     let (mut session, _) = ready();
     for (reason, qualification, rax, rcx, answer) in exits {
@@ -97,37 +152,152 @@ fn every_answer_is_decoded() {
         assert_eq!(session.exit_report(&exit), Ok(answer));
     }
     session.entry(0).unwrap();
-    let exit = Report { interruption: 0x80000031, ..report(&session, 1) };
+    let exit = Report { interruption: 0x8000_0031, ..report(&session, 1) };
     assert_eq!(session.exit_report(&exit), Ok(Answer::ExternalInterrupt { vector: 0x31 }));
-    session.entry(0).unwrap();
-    assert_eq!(session.exit_report(&report(&session, 12)), Ok(Answer::Halt));
-    session.entry(0).unwrap();
-    assert_eq!(session.exit_report(&report(&session, 0x80000021)), Ok(Answer::FailEntry));
-    assert_eq!(session.queue_event(14, Some(2)).map_err(number), Err(1));
 }
 
 #[test]
-fn refusals_have_their_numbers() {
+fn calls_are_refused_by_name() {
     let (mut session, mut frames) = ready();
-    assert_eq!(session.exit_report(&Report::default()).map_err(number), Err(1));
-    assert_eq!(session.read_field(1).map_err(number), Err(3));
-    assert_eq!(session.write_field(0x4402, 0).map_err(number), Err(4));
-    assert_eq!(session.write_field(0x0800, 0x10000).map_err(number), Err(5));
-    assert_eq!(session.reg_of_index(4).map_err(number), Err(23));
-    assert_eq!(session.set_reg_of_index(256, 0).map_err(number), Err(23));
-    assert_eq!(session.inject_interrupt(256).map_err(number), Err(12));
-    assert_eq!(session.apic_value(0).map_err(number), Err(1));
-    assert_eq!(frames.set_io_intercept_of_range(65535, 2, true).map_err(number), Err(10));
-    assert_eq!(frames.set_read_intercept(0x2000, true).map_err(number), Err(11));
-    assert_eq!(frames.set_write_intercept(0xC0002000, true).map_err(number), Err(11));
-    assert_eq!(frames.set_msr_intercept_of_range(0xBFFFFFFF, true).map_err(number), Err(11));
-    session.write_field(0x6808, 1).unwrap();
-    assert_eq!(session.gla2gva(0, u64::MAX).map_err(number), Err(17));
-    assert_eq!(set_control(0x16, 0x7F, 0x16, 9, 0), Ok(0x1F));
-    assert_eq!(set_control(0x16, 0x7F, 0x16, 1, 1).map_err(number), Err(7));
+    assert_eq!(session.setup(&setup(), &mut frames), Err(Refusal::Phase));
+    assert_eq!(session.exit_report(&Report::default()), Err(Refusal::Phase));
+    assert_eq!(session.read_field(Field(1)), Err(Refusal::Encoding));
+    assert_eq!(session.write_field(VmcsReadOnly32::EXIT_REASON, 0), Err(Refusal::ReadOnly));
+    assert_eq!(session.write_field(VmcsGuest16::ES_SELECTOR, 0x10000), Err(Refusal::Width));
+    assert_eq!(session.reg_of_index(4), Err(Refusal::Index));
+    assert_eq!(session.set_reg_of_index(256, 0), Err(Refusal::Index));
+    assert_eq!(session.inject_interrupt(256), Err(Refusal::Vector));
+    assert_eq!(session.apic_value(0), Err(Refusal::Phase));
+    assert_eq!(frames.set_io_intercept_of_range(65535, 2, true), Err(Refusal::Port));
+    assert_eq!(frames.set_read_intercept(0x2000, true), Err(Refusal::Msr));
+    assert_eq!(frames.set_write_intercept(0xC000_2000, true), Err(Refusal::Msr));
+    assert_eq!(frames.set_msr_intercept_of_range(0xBFFF_FFFF, true), Err(Refusal::Msr));
+    session.write_field(VmcsGuestNW::CS_BASE, 1).unwrap();
+    assert_eq!(session.gla2gva(0, u64::MAX), Err(Refusal::Sum));
+    (0..64).for_each(|_| session.queue_event(32, None).unwrap());
+    assert_eq!(session.queue_event(32, None), Err(Refusal::Full));
     let mut bytes = [0; RECORD_LENGTH];
     bytes[0] = 5;
-    assert_eq!(Session::from_bytes(bytes).map_err(number), Err(2));
+    assert_eq!(Session::from_bytes(bytes), Err(Refusal::Bytes));
+}
+
+#[test]
+fn control_words() {
+    assert_eq!(set_control(0x16, 0x7F, 0x16, 9, 0), Ok(0x1F));
+    assert_eq!(set_control(0x80, 0x7F, 0, 0, 0), Err(Refusal::Pair));
+    assert_eq!(set_control(0x16, 0x7F, 0x16, 1, 1), Err(Refusal::SetAndClear));
+    assert_eq!(set_control(0x16, 0x7F, 0x16, 0x80, 0), Err(Refusal::Set));
+    assert_eq!(set_control(0x16, 0x7F, 0x16, 0, 2), Err(Refusal::Clear));
+}
+
+/// On a processor that does not allow entry control bit 9.
+#[test]
+fn reports_are_refused_by_name() {
+    let mut frames = Frames::new();
+    let mut session = Session::new(&mut frames);
+    let mut arguments = setup();
+    arguments.msrs[12] = 0x0003_FDFF_0000_11FB;
+    session.setup(&arguments, &mut frames).unwrap();
+    session.entry(0).unwrap();
+    let told = |reason| report(&session, reason);
+    let mut xcr = told(55);
+    xcr.regs[1] = 1;
+    let mut paging = told(28);
+    paging.regs[0] = 0x8000_0000;
+    let reports = [
+        (told(65), Refusal::Reason),
+        (Report { cr0: 0x10, ..told(12) }, Refusal::OwnedBits),
+        (Report { interruption: 0x31, ..told(1) }, Refusal::Interrupt),
+        (Report { qualification: 0x10, ..told(28) }, Refusal::CrAccess),
+        (told(55), Refusal::Xcr0),
+        (xcr, Refusal::Xcr),
+        (told(44), Refusal::ApicAccess),
+        (Report { rip: u64::MAX, ..told(10) }, Refusal::Sum),
+        (paging, Refusal::Set),
+    ];
+    for (exit, refusal) in reports {
+        let before = session.clone();
+        assert_eq!(session.exit_report(&exit), Err(refusal));
+        assert_eq!(session, before);
+    }
+}
+
+#[test]
+fn the_count_of_entries_has_an_end() {
+    let (session, _) = ready();
+    let mut bytes = *session.as_bytes();
+    bytes[2..6].fill(0xFF);
+    assert_eq!(Session::from_bytes(bytes).unwrap().entry(0), Err(Refusal::Count));
+}
+
+/// The header's names in the wrapper's spelling: `SET_AND_CLEAR` is `SetAndClear`.
+fn camel(name: &str) -> String {
+    let part = |part: &str| part[..1].to_string() + &part[1..].to_lowercase();
+    name.split('_').map(part).collect()
+}
+
+fn header_numbers(prefix: &str) -> BTreeMap<String, u32> {
+    let header = include_str!("../../include/x86_vcpu.h");
+    let lines = header.lines().filter_map(|line| line.strip_prefix("#define ")?.strip_prefix(prefix)?.split_once(' '));
+    lines.map(|(name, number)| (name.to_string(), number.parse().expect(name))).collect()
+}
+
+#[test]
+fn refusals_are_those_of_the_header() {
+    let header: BTreeMap<String, u32> = header_numbers("VCPU_REFUSED_").into_iter().map(|(name, number)| (camel(&name), number)).collect();
+    let wrapper: BTreeMap<String, u32> = Refusal::ALL.iter().map(|refusal| (format!("{refusal:?}"), refusal.number())).collect();
+    assert_eq!(wrapper, header);
+    assert!(Refusal::ALL.iter().zip(1..).all(|(refusal, number)| refusal.number() == number));
+}
+
+#[test]
+fn walk_flags_are_those_of_the_header() {
+    let flags = [
+        ("USER", WalkFlags::USER),
+        ("WRITE", WalkFlags::WRITE),
+        ("FETCH", WalkFlags::FETCH),
+        ("PSE", WalkFlags::PSE),
+        ("WP", WalkFlags::WP),
+        ("NXE", WalkFlags::NXE),
+        ("SMAP", WalkFlags::SMAP),
+        ("SMEP", WalkFlags::SMEP),
+    ];
+    let wrapper: BTreeMap<String, u32> = flags.iter().map(|(name, flag)| ((*name).to_string(), flag.bits())).collect();
+    assert_eq!(wrapper, header_numbers("VCPU_WALK_"));
+}
+
+#[test]
+fn refusals_are_errors_with_a_text() {
+    let error: Box<dyn Error> = Box::new(Refusal::Full);
+    assert_eq!(error.to_string(), "refused (13): 64 events wait already");
+    let texts: std::collections::BTreeSet<String> = Refusal::ALL.iter().map(ToString::to_string).collect();
+    assert_eq!(texts.len(), Refusal::ALL.len());
+}
+
+#[test]
+fn every_field_has_its_name() {
+    let (session, _) = ready();
+    assert!(Field::ALL.is_sorted());
+    for field in Field::ALL {
+        assert!(session.read_field(field).is_ok());
+    }
+    let known = (0..0x8000).filter(|&encoding| session.read_field(Field(encoding)).is_ok()).count();
+    assert_eq!(known, Field::ALL.len());
+    assert_eq!(VmcsReadOnlyNW::EXIT_QUALIFICATION, Field(0x6400));
+}
+
+/// Two sessions whose fields differ in every byte are set up alike: the fields that are then the same are those that setup writes.
+#[test]
+fn setup_writes_its_fields() {
+    let mut bytes = [[0; RECORD_LENGTH]; 2];
+    bytes[1][FIELDS].fill(0xFF);
+    let [zeros, ones] = bytes.map(|bytes| {
+        let mut session = Session::from_bytes(bytes).unwrap();
+        session.setup(&setup(), &mut Frames::new()).unwrap();
+        session
+    });
+    let written: Vec<Field> = Field::ALL.into_iter().filter(|&field| zeros.read_field(field) == ones.read_field(field)).collect();
+    assert_eq!(written, Field::SETUP);
 }
 
 #[test]
@@ -157,9 +327,43 @@ fn kept_bytes_are_the_session() {
 }
 
 #[test]
-fn readings_of_a_new_guest() {
-    let (session, _) = ready();
-    assert_eq!(session.cpu_mode(0), Ok(0));
-    assert_eq!(session.page_walk().unwrap().level, 0);
+fn all_registers_at_once() {
+    let (mut session, _) = ready();
+    let before = session.clone();
+    let registers: [u64; 16] = std::array::from_fn(|i| 0x0101_0101_0101_0101 * (i as u64 + 1));
+    session.set_registers(&registers);
+    assert_eq!(session.registers(), registers);
+    for index in (0..16).filter(|&index| index != 4) {
+        assert_eq!(session.reg_of_index(index), Ok(0x0101_0101_0101_0101 * (index + 1)));
+    }
+    session.set_registers(&before.registers());
+    assert_eq!(session, before);
+}
+
+#[test]
+fn readings() {
+    let (mut session, _) = ready();
+    assert_eq!(session.page_walk(), PageWalk { top_entry: 0, level: 0, width: 0, flags: WalkFlags::PSE });
     assert_eq!(session.gla2gva(0, 0x1234), Ok(0x1234));
+    assert_eq!(session.cpu_mode(0), VmCpuMode::Real);
+    assert_eq!(session.cpu_mode(0x400), VmCpuMode::Compatibility);
+    session.write_field(VmcsGuest32::CS_ACCESS_RIGHTS, 0x2000).unwrap();
+    assert_eq!(session.cpu_mode(0x400), VmCpuMode::Mode64);
+    session.write_field(VmcsGuestNW::CR0, 0x8001_0001).unwrap();
+    assert_eq!(session.cpu_mode(0), VmCpuMode::Protected);
+    session.write_field(VmcsGuestNW::CR4, 0x0030_0020).unwrap();
+    session.write_field(VmcsGuest64::IA32_EFER, 0xC00).unwrap();
+    session.write_field(VmcsGuestNW::CR3, 0x7000).unwrap();
+    let flags = WalkFlags::PSE | WalkFlags::WP | WalkFlags::NXE | WalkFlags::SMAP | WalkFlags::SMEP;
+    assert_eq!(session.page_walk(), PageWalk { top_entry: 0x7000, level: 4, width: 9, flags });
+}
+
+/// The wrapper's lengths are right always; the archive refuses others.
+#[test]
+fn a_wrong_length_is_refused() {
+    let (mut record, mut frame) = ([0; RECORD_LENGTH], [0; FRAME_LENGTH]);
+    let number = unsafe { ffi::vcpu_apic_value(record.as_mut_ptr(), RECORD_LENGTH - 1, 0) };
+    assert_eq!(number, Refusal::Bytes.number());
+    let number = unsafe { ffi::vcpu_set_read_intercept(frame.as_mut_ptr(), FRAME_LENGTH - 1, 0, 1) };
+    assert_eq!(number, Refusal::Bytes.number());
 }

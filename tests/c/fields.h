@@ -1,4 +1,4 @@
-/* Written by tools/c_fields.py: encoding, width in bytes, read-only, offset in the record. */
+/* Written by tools/fields.py: encoding, width in bytes, read-only, offset in the record. */
 static const struct {
     uint64_t encoding;
     unsigned width, read_only, offset;

@@ -1,7 +1,7 @@
 /*
  * Setup, from C: 100,000 calls (or as many as the first argument says) on capability words of many kinds, on records in every phase and on wrong
  * blocks, each against a model written from document 01 and the manual. Every byte of the record and of the frames is compared; the calls
- * that got each number are counted and printed.
+ * that got each number are counted and printed. Before them, that the header's VCPU_SETUP_FIELDS are the fields that setup writes.
  */
 #include "x86_vcpu.h"
 
@@ -245,15 +245,60 @@ static void once(void)
     counts[number]++;
 }
 
-/* Document 01's P4 and P5, through the call: CR0 and its mask, and the EPT pointer, of such words on a new session. */
-static void worked(void)
+/* A block that is accepted; all but the capability words is zero. */
+static void plain_block(void)
 {
     unsigned i;
 
-    CHECK(vcpu_new(r, N, frames[0], FRAME, frames[1], FRAME, frames[2], FRAME) == 0);
     memset(block, 0, BLOCK);
     for (i = 0; i < MSR_COUNT; i++)
         put(block, MSRS + 8 * i, 8, real[i]);
+}
+
+#define ENCODING(group, name, encoding) encoding,
+static const uint64_t setup_fields[] = {VCPU_SETUP_FIELDS(ENCODING)};
+
+/*
+ * Two sessions are set up by the same block, and each byte of their fields differs beforehand. A field that setup writes is then the same in both; one that it does not write
+ * still has what it had. The header's list, which ascends, has all of the former and no others.
+ */
+static void listed(void)
+{
+    enum { COUNT = sizeof setup_fields / sizeof setup_fields[0] };
+    uint8_t was[N];
+    unsigned i, k, found = 0;
+
+    plain_block();
+    memset(r, 0, N);
+    for (i = VCPU_OFFSET_W16; i < VCPU_OFFSET_WAITING; i++)
+        r[i] = (uint8_t)(any() >> 24);
+    memcpy(was, r, N);
+    memcpy(s, r, N);
+    for (i = VCPU_OFFSET_W16; i < VCPU_OFFSET_WAITING; i++)
+        s[i] = (uint8_t)~r[i];
+    CHECK(vcpu_setup(r, N, block, BLOCK, frames[0], FRAME, frames[1], FRAME, frames[2], FRAME) == 0);
+    CHECK(vcpu_setup(s, N, block, BLOCK, frames[0], FRAME, frames[1], FRAME, frames[2], FRAME) == 0);
+    for (i = 0; i < FIELDS; i++) {
+        uint64_t encoding = fields[i].encoding;
+        int written = field(r, encoding) == field(s, encoding), in_list = 0;
+
+        for (k = 0; k < COUNT; k++)
+            in_list |= setup_fields[k] == encoding;
+        CHECK(written == in_list);
+        CHECK(written || field(r, encoding) == field(was, encoding));
+        found += (unsigned)written;
+    }
+    for (k = 1; k < COUNT; k++)
+        CHECK(setup_fields[k - 1] < setup_fields[k]);
+    CHECK(found == COUNT);
+    printf("setup: writes %u fields, those of VCPU_SETUP_FIELDS\n", found);
+}
+
+/* Document 01's P4 and P5, through the call: CR0 and its mask, and the EPT pointer, of such words on a new session. */
+static void worked(void)
+{
+    CHECK(vcpu_new(r, N, frames[0], FRAME, frames[1], FRAME, frames[2], FRAME) == 0);
+    plain_block();
     put(block, VCPU_SETUP_EPT_ROOT, 8, 0x1FFF);
     CHECK(vcpu_setup(r, N, block, BLOCK, frames[0], FRAME, frames[1], FRAME, frames[2], FRAME) == 0);
     CHECK(field(r, 0x6800) == 0x30);
@@ -267,6 +312,7 @@ int main(int argc, char **argv)
     unsigned long calls = argc > 1 ? strtoul(argv[1], 0, 10) : 100000, i;
 
     worked();
+    listed();
     for (i = 0; i < calls; i++)
         once();
     for (i = 0; i < 10; i++)

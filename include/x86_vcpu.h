@@ -88,10 +88,10 @@ extern "C" {
 #define VCPU_FRAME_LENGTH 4096
 
 /* ---- Layout of a record ----
- * Nothing lies between the parts, and numbers stand least significant byte first. The registers may be read and written in place, by VCPU_OFFSET_REGS:
- * every content of their 128 bytes is a record's, and 15 single calls take longer than an entry and a report. Fields have vcpu_read_field and
- * vcpu_write_field, the phase and the counts vcpu_get_counts. No function hands out the waiting events, the kept pairs and the fixed words: their
- * offsets are for tools that keep or show records.
+ * Nothing lies between the parts, and numbers stand least significant byte first. The host may read and write the registers in place, at
+ * VCPU_OFFSET_REGS: any content of their 128 bytes is accepted, and 15 single calls take longer than an entry and a report. Fields are read and written
+ * by vcpu_read_field and vcpu_write_field; the phase and the counts are read by vcpu_get_counts. Nothing hands out the waiting events, the kept pairs
+ * and the fixed words; their offsets are for tools that keep or show records.
  */
 
 /* Where the session stands: phase (1 byte), launched (1, yes/no), accepted entries (4), entries that held an event (4). */
@@ -108,7 +108,7 @@ extern "C" {
 #define VCPU_OFFSET_NATURAL 700
 /*
  * The queue, its front first: how many events wait (1), vectors (64), whether each has an error code (one number of 8 bytes: bit i for place i), codes
- * (64 of 4).
+ * (64 of 4). What stands in the places past the last event is not looked at.
  */
 #define VCPU_OFFSET_WAITING 1068
 #define VCPU_OFFSET_VECTORS 1069
@@ -129,7 +129,7 @@ extern "C" {
 #define VCPU_ENDED 4
 
 /* ---- Sessions ----
- * A record is tested whole before anything else: every function that takes one answers VCPU_REFUSED_BYTES first.
+ * A record is tested before anything else: every function that takes one but vcpu_new answers VCPU_REFUSED_BYTES first.
  *
  * The record holds the values of the VMCS fields and the guest's registers; the host carries them to the processor. Before an entry it loads all
  * registers; an exit report brings them back. Fields it writes (VMWRITE, with the value that vcpu_read_field gives) as follows.

@@ -243,6 +243,15 @@ fn header_numbers(prefix: &str) -> BTreeMap<String, u32> {
 }
 
 #[test]
+fn lengths_are_those_of_the_header() {
+    let lengths = [("RECORD_", RECORD_LENGTH), ("FRAME_", FRAME_LENGTH), ("REPORT_", blocks::REPORT_LENGTH), ("SETUP_", blocks::SETUP_LENGTH)];
+    for (part, length) in lengths {
+        let header = header_numbers(&format!("VCPU_{part}LENGTH"));
+        assert_eq!(header.into_values().map(|number| number as usize).collect::<Vec<usize>>(), [length]);
+    }
+}
+
+#[test]
 fn refusals_are_those_of_the_header() {
     let header: BTreeMap<String, u32> = header_numbers("VCPU_REFUSED_").into_iter().map(|(name, number)| (camel(&name), number)).collect();
     let wrapper: BTreeMap<String, u32> = Refusal::ALL.iter().map(|refusal| (format!("{refusal:?}"), refusal.number())).collect();

@@ -86,7 +86,7 @@ static uint64_t get(const uint8_t *bytes, unsigned at, unsigned size)
     return x;
 }
 
-/* The guest's registers lie in the record in the clear. */
+/* The header lets a host read and write the registers in the record itself. */
 static uint64_t reg(unsigned i)
 {
     return get(record, VCPU_OFFSET_REGS + 8 * i, 8);

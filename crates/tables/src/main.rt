@@ -1,5 +1,5 @@
 // Prints the manual's tables as the core has them: for each vector its interruption type, whether it carries an error code and whether its
-// type is soft; then each encoding that names a field, with its kind and its width in bits.
+// type is soft; then each encoding of the table that a read accepts, with its kind, its width in bits and its place; and how many encodings a read accepts.
 use libc::STDOUT_FILENO;
 use vmcs::FieldAnswer;
 
@@ -27,21 +27,53 @@ fn print_vector(vector: u8) {
     io::write_all(STDOUT_FILENO, b"\n");
 }
 
-fn print_encoding(encoding: u64) {
+// An encoding of the table: its kind, its width in bits, and the place of its field among those of that width.
+fn print_encoding(encoding: u64, place: usize) {
     io::print_hex(STDOUT_FILENO, encoding, 4);
     space();
     io::print_decimal(STDOUT_FILENO, (encoding >> 10) % 4);
     space();
     io::print_decimal(STDOUT_FILENO, vmcs::width_of(encoding) as u64);
+    space();
+    io::print_decimal(STDOUT_FILENO, place as u64);
     io::write_all(STDOUT_FILENO, b"\n");
 }
 
-fn print_field(encoding: u64) {
+fn is_field(encoding: u64) -> bool {
     let session = vcpu_session::new();
     let fields = session.vmcs;
     match vmcs::vmcs_read(fields, encoding) {
-        FieldAnswer::Value(_) => print_encoding(encoding),
-        FieldAnswer::Refused(_) => {}
+        FieldAnswer::Value(_) => true,
+        FieldAnswer::Refused(_) => false,
+    }
+}
+
+// How many numbers below 0x8000 a read accepts.
+fn print_accepted() {
+    let mut accepted: u64 = 0;
+    let mut encoding: u64 = 0;
+    while encoding < 0x8000 {
+        if is_field(encoding) {
+            if accepted < 0x8000 {
+                accepted += 1;
+            }
+        }
+        encoding += 1;
+    }
+    io::print_decimal(STDOUT_FILENO, accepted);
+    io::write_all(STDOUT_FILENO, b" encodings are read\n");
+}
+
+// The encodings of the table that a read accepts.
+fn print_table() {
+    let encodings = vmcs::table::table();
+    let places = vmcs::table::places();
+    let mut i: usize = 0;
+    while i < 154 {
+        if is_field(encodings[i]) {
+            print_encoding(encodings[i], places[i]);
+        }
+        i += 1;
     }
 }
 
@@ -56,9 +88,6 @@ fn print_vectors() {
 
 fn main() {
     print_vectors();
-    let mut encoding: u64 = 0;
-    while encoding < 0x8000 {
-        print_field(encoding);
-        encoding += 1;
-    }
+    print_table();
+    print_accepted();
 }

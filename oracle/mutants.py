@@ -3,11 +3,13 @@
 
 usage: oracle/mutants.py [--cases N] [--only TEXT]
 
-The crates are turned to Rust by tools/strip.py. A mutant is run by every program that replays a list of the original's answers and
-depends on the changed crate, and by the differential run where the exported functions depend on it.
+The crates are turned to Rust by tools/strip.py. A mutation is a text, found wherever in the library crates it stands, and what takes its place. A mutant
+is run by every program that replays a list of the original's answers and depends on the changed crate, and by the differential run where the exported
+functions depend on it.
 
 It prints a table in Markdown. Exit status: 0 if every mutant is noticed or its survival is explained in mutations.py, and every
-mutation applies; 3 if the original can't be built; else 1. With --only, the mutations whose file or text contains TEXT.
+mutation applies, its text standing in the library crates exactly once; 3 if the original can't be built; else 1. With --only, the mutations whose file or
+text contains TEXT.
 """
 
 import argparse
@@ -121,30 +123,45 @@ def main():
     if wrong:
         raise SystemExit(f"not a mutant, and yet noticed by {', '.join(wrong)}")
 
-    chosen = [m for m in MUTATIONS if options.only in f"{m.file} {m.old} {m.new}"]
+    sources = library_sources(crates)
+    located = [(places(sources, mutation), mutation) for mutation in MUTATIONS]
+    chosen = [(found, m) for found, m in located if options.only in f"{' '.join(found)} {m.old} {m.new}"]
     print("| file | from | to | noticed by |")
     print("|---|---|---|---|")
     counts = {"noticed": 0, "explained": 0, "wrong": 0}
-    for mutation in chosen:
-        kind, verdict = try_mutation(mutation, crates, checks)
+    for found, mutation in chosen:
+        kind, verdict = try_mutation(found, mutation, crates, checks)
         counts[kind] += 1
         cell = lambda text: "`" + " ".join(text.split()).replace("|", "\\|") + "`"
-        print(f"| {mutation.file} | {cell(mutation.old)} | {cell(mutation.new)} | {verdict} |", flush=True)
+        print(f"| {', '.join(found)} | {cell(mutation.old)} | {cell(mutation.new)} | {verdict} |", flush=True)
     print()
     print(f"{len(chosen)} mutants: {counts['noticed']} noticed, {counts['explained']} survive and are explained, "
           f"{counts['wrong']} survive unexplained or do not apply")
     return int(counts["wrong"] != 0)
 
 
-def try_mutation(mutation, crates, checks):
+def library_sources(crates):
+    """The text of each file of the library crates, by CRATE/src/FILE."""
+    found = {}
+    for name in crates:
+        folder = REPOSITORY / "crates" / name / "src"
+        if not (folder / "main.rt").is_file():
+            for path in sorted(folder.rglob("*.rt")):
+                found[f"{name}/src/{path.relative_to(folder)}"] = path.read_text()
+    return found
+
+
+def places(sources, mutation):
+    """The files that have a mutation's text, one as often as it stands there."""
+    return [file for file, text in sources.items() for _ in range(text.count(mutation.old))]
+
+
+def try_mutation(found, mutation, crates, checks):
     """Builds and runs one mutant: its kind and what to say of it."""
-    source = REPOSITORY / "crates" / mutation.file
-    crate, _, inside = mutation.file.partition("/src/")
-    if crate not in crates or not source.is_file():
-        return "wrong", "DOES NOT APPLY: no such file of a listed crate"
-    text = source.read_text()
-    if text.count(mutation.old) != 1:
-        return "wrong", f"DOES NOT APPLY: {text.count(mutation.old)} places"
+    if len(found) != 1:
+        return "wrong", f"DOES NOT APPLY: {len(found)} places"
+    crate, _, inside = found[0].partition("/src/")
+    text = (REPOSITORY / "crates" / found[0]).read_text()
     target = (WORK / crate / "src" / inside).with_suffix(".rs")
     original = target.read_text()
     target.write_text(strip.stripped(text.replace(mutation.old, mutation.new)))

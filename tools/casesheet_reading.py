@@ -1,5 +1,5 @@
 #!/usr/bin/env python3
-"""What casesheet prints, read from document 01 alone.
+"""What casesheet prints, typed from document 01's words and from nothing else.
 
 The expected output of the crates casesheet and casesheet_* comes from this script and not from the program. The script shares
 nothing with the Rattle code and its definitions: it splits the input at line feeds, and matches a line by a regular expression.
@@ -205,7 +205,7 @@ def main():
                 out.write(data)
     elif mode == ["--check"]:
         wrong = [path for path, data in files() if not os.path.isfile(path) or open(path, "rb").read() != data]
-        print("\n".join("differs: " + path for path in wrong) or "all as read from document 01")
+        print("\n".join("differs: " + path for path in wrong) or "all as document 01 says")
         return 1 if wrong else 0
     elif mode:
         print(__doc__)

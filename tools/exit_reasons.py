@@ -18,6 +18,7 @@ assert reasons == sorted(reasons, key=lambda r: r[1])
 
 out = {}
 text = """// The basic exit reasons (SDM 3D, appendix C) by their names in definitions.rs.
+// Ported from the enum VmxExitReason of x86_vcpu src/vmx/definitions.rs (Copyright 2025 The Axvisor Team, Apache-2.0). Changed: the reasons are numbers.
 ghost use mathlib.Core.Path.{_≡_};
 ghost use Rattle.definitions.specs.ExitReasons.{exitReasons};
 

@@ -34,14 +34,17 @@ for x, enum, name in fields:
 
 out = {}
 
+PORTED = "// Ported from the enums of x86_vcpu src/vmx/vmcs.rs (Copyright 2025 The Axvisor Team, Apache-2.0). Changed: %s\n"
 text = "// The fields by their names in vmcs.rs. A value is the field's place in the array of its width.\n"
+text += PORTED % "a name is a place and not an encoding, and VmcsControl16 is left out."
 for enum, members in enums.items():
     consts = "\n".join("    pub const %s: usize = %d;\n" % (name, places[x]) for x, name in members)
     text += "\npub struct %s {}\n\nimpl %s {\n%s}\n" % (enum, enum, consts)
 out["src/names.rt"] = text
 
-text = """// The table of fields: the encodings of the enums of vmcs.rs but VmcsControl16, ascending.
-ghost use mathlib.Core.Path.{_≡_};
+text = "// The table of fields: the encodings of the enums of vmcs.rs but VmcsControl16, ascending.\n"
+text += PORTED % "the encodings are one table, and VmcsControl16 is left out."
+text += """ghost use mathlib.Core.Path.{_≡_};
 ghost use Rattle.vmcs.specs.Named.{encodings, placesNamed};
 """
 text += "".join("use names::%s;\n" % e for e in sorted(enums)).replace("use names", "use crate::names")

@@ -1,6 +1,7 @@
 // The exit report done in place on a session's record: it reads and writes the bytes that the report needs, and no others.
-// Ported as vcpu_exit, vcpu_handlers and vcpu_report are, from x86_vcpu src/vmx/vcpu.rs (Copyright 2025 The Axvisor Team, Apache-2.0). Changed as there; and
-// the session is the bytes of a record.
+// Ported from `inner_run` after the exit, `builtin_vmexit_handler` and the handlers that it calls of x86_vcpu src/vmx/vcpu.rs, and `update_efer` of
+// src/vmx/vmcs.rs (Copyright 2025 The Axvisor Team, Apache-2.0). Changed: the host hands in what the processor reported, the session is the bytes of a
+// record, every refusal is found before a byte is written, and a failed entry ends the session.
 ghost use mathlib.Core.Path.{_≡_};
 ghost use mathlib.Core.Bool.{true, false};
 ghost use lib.ListN.{length};

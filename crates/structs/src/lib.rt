@@ -1,5 +1,5 @@
 // The three intercept frames, I/O bitmaps A and B and the MSR bitmaps, and the EPT pointer.
-// Ported from x86_vcpu src/vmx/structs.rs (Copyright 2025 The Axvisor Team, Apache-2.0); changed: the frames are the caller's slices, all
+// Ported from x86_vcpu src/vmx/structs.rs (Copyright 2025 The Axvisor Team, Apache-2.0). Changed: the frames are the caller's slices, all
 // 4,096 bytes of an I/O bitmap are reached, a range is written by whole bytes, and an edit that cannot be made answers a number.
 ghost use mathlib.Core.Path.{_≡_};
 ghost use mathlib.Core.List.{[], _∷_};

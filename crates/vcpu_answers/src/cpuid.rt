@@ -1,4 +1,6 @@
 // CPUID as the guest sees it (`handle_cpuid`).
+// Ported from `handle_cpuid` of x86_vcpu src/vmx/vcpu.rs (Copyright 2025 The Axvisor Team, Apache-2.0). Changed: the host's CPUID words come in as an
+// argument, and the vendor text is read byte by byte.
 ghost use mathlib.Core.Path.{_≡_};
 ghost use mathlib.Core.List.{[], _∷_};
 ghost use Rattle.bits.specs.LittleEndian.{numberOf};

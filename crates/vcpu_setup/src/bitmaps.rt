@@ -1,5 +1,5 @@
 // The intercepts that setup adds to the frames.
-// Ported from setup_io_bitmap and setup_msr_bitmap of x86_vcpu src/vmx/vcpu.rs (Copyright 2025 The Axvisor Team, Apache-2.0); changed: the frames are
+// Ported from setup_io_bitmap and setup_msr_bitmap of x86_vcpu src/vmx/vcpu.rs (Copyright 2025 The Axvisor Team, Apache-2.0). Changed: the frames are
 // the caller's slices, and a frame of another length answers a number.
 ghost use mathlib.Core.Path.{_≡_};
 ghost use Rattle.vcpu_setup.specs.Bitmaps.{ioBitmapSet, msrBitmapSet};

@@ -1,4 +1,6 @@
 // Control words, and the guest's CR0, CR4 and EFER.
+// Ported from `set_control` and `update_efer` of x86_vcpu src/vmx/vmcs.rs, and `set_cr` of src/vmx/vcpu.rs (Copyright 2025 The Axvisor Team, Apache-2.0).
+// Changed: capability words come in as numbers, results go out and are not written to fields, and what the Rust panics at is refused by a number.
 ghost use mathlib.Core.Path.{_≡_};
 ghost use Rattle.vmcs.specs.Control.{setControl, controlWord, wordPermitted, allPermitted};
 ghost use Rattle.vmcs.specs.Cr.{crWords, cr0Words, cr4Words};

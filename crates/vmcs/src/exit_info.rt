@@ -1,4 +1,6 @@
 // What the words of a VM exit say.
+// Ported from `exit_info`, `interrupt_exit_info`, `io_exit_info` and `cr_access_info` of x86_vcpu src/vmx/vmcs.rs (Copyright 2025 The Axvisor Team,
+// Apache-2.0). Changed: the words come in as numbers, an exit reason is one too, and instruction length, RIP and the error code itself are left out.
 ghost use mathlib.Core.Path.{_≡_};
 ghost use Rattle.vmcs.specs.ExitInfo.{exitInfo, interruptExitInfo, ioExitInfo, crAccessInfo};
 use definitions::InterruptionBits;

@@ -1,4 +1,5 @@
 // The fields by their names in vmcs.rs. A value is the field's place in the array of its width.
+// Ported from the enums of x86_vcpu src/vmx/vmcs.rs (Copyright 2025 The Axvisor Team, Apache-2.0). Changed: a name is a place and not an encoding, and VmcsControl16 is left out.
 
 pub struct VmcsGuest16 {}
 

@@ -1,4 +1,5 @@
 // The table of fields: the encodings of the enums of vmcs.rs but VmcsControl16, ascending.
+// Ported from the enums of x86_vcpu src/vmx/vmcs.rs (Copyright 2025 The Axvisor Team, Apache-2.0). Changed: the encodings are one table, and VmcsControl16 is left out.
 ghost use mathlib.Core.Path.{_≡_};
 ghost use Rattle.vmcs.specs.Named.{encodings, placesNamed};
 use crate::names::VmcsControl32;

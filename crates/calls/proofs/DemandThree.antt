@@ -24,7 +24,7 @@ use Rattle.vcpu_events.specs.declared.Entered.{Entered}
 use Rattle.vcpu_events.specs.declared.Injection.{Injection}
 use Rattle.vcpu_events.specs.declared.Injection.the-variants.{Empty, Held, Written}
 use Rattle.vcpu_setup.specs.Capability.{capabilitiesOf}
-use Rattle.vcpu_report.specs.Invariant.{judged, AllPermitted}
+use Rattle.vcpu_report.specs.Invariant.{AllPermitted}
 use Rattle.blocks.specs.SetupBlock.{msrsOf}
 use Rattle.record.specs.Codec.{sessionOf}
 use Rattle.calls.specs.Reference.{types, codes, Call, setup, queueEvent, injectInterrupt, entry, exitReport, apicValue, fieldWrite, registerWrite, WellTyped, AllWellTyped, Event, injectedBy, leftBy, queuedBy, start, Reference, Guarded, validBy, effect, choose, isHeld, answerOn, referenceStep, referenceAnswer, referenceAfter, referenceAnswers, Refuses, rules}
@@ -255,9 +255,9 @@ whole-list calls w =
           ∙ ap isWritten (sym (kc .answer));
       permitted = λ none block a c msr mem stack v ok.
           let kc = carried b s (entry stack) v m h in
-          subst (λ (t : Session). AllPermitted (capabilitiesOf (msrsOf block)) (judged (t .vmcs))) (sym (kc .state .holds))
-          (kept-permitted (msrsOf block) (next s (entry stack))
-          (enter-kept (msrsOf block) s stack h
+          subst (λ (t : Session). AllPermitted (capabilitiesOf (msrsOf block)) (t .vmcs)) (sym (kc .state .holds))
+          (kept-permitted (capabilitiesOf (msrsOf block)) (next s (entry stack))
+          (enter-kept (capabilitiesOf (msrsOf block)) s stack
           (permits-since block a c msr newSession calls w sound-new
           (unwritten-at judgedFields log (subst (Unwritten judgedFields) (k .history) none))
           (subst (List·Memᴰ (record { call = setup block a c msr; refused = false })) (ap fed (k .history)) mem))));

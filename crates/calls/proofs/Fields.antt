@@ -1,12 +1,10 @@
 -- A write seen at its field and at another, the fields that an entry leaves alone, and values within their fields. Assumes nothing.
-use Prim.Native.Nat.{ℕ, zero, suc, _<_, _^_}
+use Prim.Native.Nat.{ℕ, _<_, _^_}
 use mathlib.Core.Path.{_≡_, refl, _∙_}
 use mathlib.Core.Bool.{Bool, true, false, cond, _&&_}
 use mathlib.Core.List.{List, [], _∷_}
 use lib.Dec.{T, ltb, ltb→lt, lit<}
-use lib.ListN.{set, length-set}
 use borrow.Author.Tests.{eq-eqb}
-use Rattle.bits.specs.LittleEndian.{Below}
 use Rattle.bits.proofs.WordLaws.{and-l, and-r}
 use Rattle.definitions.specs.Interruption.{hasErrorCode, isSoft, fromVector}
 use Rattle.vmcs.specs.Field.{Field, Word16, Word64, Word32, Natural, placeOf, sizeOf, widthBits, valueOf, put}
@@ -18,7 +16,6 @@ use Rattle.vmcs.specs.Names.VmcsReadOnly32 as VmcsReadOnly32
 use Rattle.vmcs.proofs.WriteLaws.{read-applied, sized-applied}
 use Rattle.vcpu_events.specs.Entry.{wordOf, codeOf, withCode, withLength, injected, withStack, windowSet}
 use Rattle.vcpu_events.specs.declared.Event as Core
-use Rattle.record.specs.Runs.{Numbers}
 use Rattle.record.specs.Fitting.{VmcsFits}
 use Rattle.record_edits.proofs.Fits.{put-fits}
 use Rattle.calls.proofs.Choices.{cond-all}
@@ -36,6 +33,25 @@ put-same v g f x s h e = read-applied (g ≔ x ∷ []) v f s h ∙ rw e
 
 -- ---- what an entry does to the fields
 
+-- what each write of an Other field keeps, an entry keeps
+module _ (P : Vmcs → Type 0) (Other : Field → Type 0) (kept : (v : Vmcs) (g : Field) (x : ℕ) → Other g → P v → P (put v g x)) where
+  pub stack-keeps : (v : Vmcs) (launched : Bool) (stack : ℕ) → Other VmcsHostNW.RSP → P v → P (withStack v launched stack)
+  unfolding withStack
+  stack-keeps v launched stack o p = cond-all P launched _ _ (λ _. p) (λ _. kept v VmcsHostNW.RSP stack o p)
+
+  code-keeps : (v : Vmcs) (e : Core.Event) → Other VmcsControl32.VMENTRY_EXCEPTION_ERR_CODE → P v → P (withCode v e)
+  unfolding withCode
+  code-keeps v e o p = cond-all P (hasErrorCode (e .vector)) _ _ (λ _. kept v VmcsControl32.VMENTRY_EXCEPTION_ERR_CODE _ o p) (λ _. p)
+
+  length-keeps : (v : Vmcs) (e : Core.Event) → Other VmcsControl32.VMENTRY_INSTRUCTION_LEN → P v → P (withLength v e)
+  unfolding withLength
+  length-keeps v e o p = cond-all P (isSoft (fromVector (e .vector))) _ _ (λ _. kept v VmcsControl32.VMENTRY_INSTRUCTION_LEN _ o p) (λ _. p)
+
+  pub injection-keeps : (v : Vmcs) (e : Core.Event) → Other VmcsControl32.VMENTRY_EXCEPTION_ERR_CODE → Other VmcsControl32.VMENTRY_INSTRUCTION_LEN
+      → Other VmcsControl32.VMENTRY_INTERRUPTION_INFO_FIELD → P v → P (injected v e)
+  unfolding injected
+  injection-keeps v e a b c p = kept _ VmcsControl32.VMENTRY_INTERRUPTION_INFO_FIELD _ c (length-keeps (withCode v e) e b (code-keeps v e a p))
+
 -- g is v but for the fields that are not f
 pub record Same (f : Field) (v g : Vmcs) : Type 0 where
   pub sized : Sized g
@@ -46,30 +62,22 @@ module _ (f : Field) (h : placeOf f < sizeOf f) where
   same-put v w g x e s = record { sized = put-sized w g x (s .sized); value = put-same w g f x (s .sized) h e ∙ s .value }
 
   pub same-stack : (v : Vmcs) (launched : Bool) (stack : ℕ) → Sized v → sameField VmcsHostNW.RSP f ≡ false → Same f v (withStack v launched stack)
-  unfolding withStack
-  same-stack v launched stack s e =
-      let z : Same f v v = record { sized = s; value = refl } in
-      cond-all (Same f v) launched _ _ (λ _. z) (λ _. same-put v v VmcsHostNW.RSP stack e z)
+  same-stack v launched stack s e = stack-keeps (Same f v) (λ g. sameField g f ≡ false) (same-put v) v launched stack e (record { sized = s; value = refl })
 
   pub same-window : (v : Vmcs) → Sized v → sameField VmcsControl32.PRIMARY_PROCBASED_EXEC_CONTROLS f ≡ false → Same f v (windowSet v true)
   unfolding windowSet
   same-window v s e = same-put v v VmcsControl32.PRIMARY_PROCBASED_EXEC_CONTROLS _ e (record { sized = s; value = refl })
 
   pub same-code : (v : Vmcs) (e : Core.Event) → Sized v → sameField VmcsControl32.VMENTRY_EXCEPTION_ERR_CODE f ≡ false → Same f v (withCode v e)
-  unfolding withCode
-  same-code v e s a =
-      let z : Same f v v = record { sized = s; value = refl } in
-      cond-all (Same f v) (hasErrorCode (e .vector)) _ _ (λ _. same-put v v VmcsControl32.VMENTRY_EXCEPTION_ERR_CODE _ a z) (λ _. z)
+  same-code v e s a = code-keeps (Same f v) (λ g. sameField g f ≡ false) (same-put v) v e a (record { sized = s; value = refl })
 
   pub same-length : (v w : Vmcs) (e : Core.Event) → sameField VmcsControl32.VMENTRY_INSTRUCTION_LEN f ≡ false → Same f v w → Same f v (withLength w e)
-  unfolding withLength
-  same-length v w e a z = cond-all (Same f v) (isSoft (fromVector (e .vector))) _ _ (λ _. same-put v w VmcsControl32.VMENTRY_INSTRUCTION_LEN _ a z) (λ _. z)
+  same-length v w e a z = length-keeps (Same f v) (λ g. sameField g f ≡ false) (same-put v) w e a z
 
   pub same-injected : (v : Vmcs) (e : Core.Event) → Sized v → sameField VmcsControl32.VMENTRY_EXCEPTION_ERR_CODE f ≡ false
       → sameField VmcsControl32.VMENTRY_INSTRUCTION_LEN f ≡ false
       → sameField VmcsControl32.VMENTRY_INTERRUPTION_INFO_FIELD f ≡ false → Same f v (injected v e)
-  unfolding injected
-  same-injected v e s a b c = same-put v _ VmcsControl32.VMENTRY_INTERRUPTION_INFO_FIELD _ c (same-length v (withCode v e) e b (same-code v e s a))
+  same-injected v e s a b c = injection-keeps (Same f v) (λ g. sameField g f ≡ false) (same-put v) v e a b c (record { sized = s; value = refl })
 
 -- ---- what an injection leaves
 

@@ -61,20 +61,27 @@ pub record Names (x : ℕ) (f : Field) : Type 0 where
   pub field : fieldOf x ≡ f
   pub within : placeOf f < sizeOf f
 
-module _ (e x : ℕ) (f : Field) (h : positionOf encodings e < 154) (n : Names x f) where
-  same-encoding : sameField (fieldOf e) f ≡ true → e ≡ x
+module _ (e x : ℕ) (h : positionOf encodings e < 154) (l : positionOf encodings x < 154) where
+  same-encoding : sameField (fieldOf e) (fieldOf x) ≡ true → e ≡ x
   same-encoding t =
       let r : positionOf encodings e ≡ positionOf encodings x
-      = sym (rank-field (positionOf encodings e) h) ∙ same-rank (fieldOf e) f t ∙ ap rankOf (sym (n .field)) ∙ rank-field (positionOf encodings x)
-      (n .listed) in
-      sym (at-position encodings e (rw (table .0) h)) ∙ ap (λ (p : ℕ). getD encodings p 0) r ∙ at-position encodings x (rw (table .0) (n .listed))
+      = sym (rank-field (positionOf encodings e) h) ∙ same-rank (fieldOf e) (fieldOf x) t ∙ rank-field (positionOf encodings x) l in
+      sym (at-position encodings e (rw (table .0) h)) ∙ ap (λ (p : ℕ). getD encodings p 0) r ∙ at-position encodings x (rw (table .0) l)
 
+  pub other-field : (e ≡ x → ⊥) → sameField (fieldOf e) (fieldOf x) ≡ false
+  other-field n = go (sameField (fieldOf e) (fieldOf x)) same-encoding
+    where
+      go : (t : Bool) → (t ≡ true → e ≡ x) → t ≡ false
+      go true q = absurd (n (q refl))
+      go false q = refl
+
+module _ (e x : ℕ) (f : Field) (h : positionOf encodings e < 154) (n : Names x f) where
   pub raw-read : (v : Vmcs) (value : ℕ) → Sized v → (d : Dec (e ≡ x)) → valueOf (put v (fieldOf e) value) f ≡ choose d value (valueOf v f)
   raw-read v value sized d = read-applied (fieldOf e ≔ value ∷ []) v f sized (n .within) ∙ go d
     where
       go : (d : Dec (e ≡ x)) → cond (sameField (fieldOf e) f) value (valueOf v f) ≡ choose d value (valueOf v f)
       go (yes q) = rw (ap (λ (y : ℕ). sameField (fieldOf y) f) q ∙ ap (λ (g : Field). sameField g f) (n .field) ∙ same-self f)
-      go (no q) = cond-all (λ (y : ℕ). y ≡ valueOf v f) (sameField (fieldOf e) f) _ _ (λ t. absurd (q (same-encoding t))) (λ _. refl)
+      go (no q) = rw (ap (sameField (fieldOf e)) (sym (n .field)) ∙ other-field e x h (n .listed) q)
 
 -- an encoding has a place exactly where it is listed
 pub placed-listed : (es : List ℕ) (x : ℕ) → positionOf es x < length es → List·Memᴰ x es

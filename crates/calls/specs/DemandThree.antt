@@ -15,7 +15,7 @@ use Rattle.vcpu_session.specs.declared.Session.{Session}
 use Rattle.vcpu_events.specs.declared.Injection.{Injection}
 use Rattle.vcpu_events.specs.declared.Injection.the-variants.{Empty, Held, Written}
 use Rattle.vcpu_setup.specs.Capability.{capabilitiesOf}
-use Rattle.vcpu_report.specs.Invariant.{judged, AllPermitted}
+use Rattle.vcpu_report.specs.Invariant.{AllPermitted}
 use Rattle.blocks.specs.SetupBlock.{msrsOf}
 use Rattle.record.specs.Codec.{sessionOf, acceptedOf}
 use Rattle.calls.specs.Reference.{Call, setup, entry, Event, WellTyped, AllWellTyped, queuedBy, Reference, start, IsHeld, referenceAfter, referenceAnswers, rules, Refuses, types, codes, Word}
@@ -111,7 +111,7 @@ pub record WholeList (calls : List Call) (b : List ℕ) : Type 0 where
   pub permitted : Unwritten judgedFields (history calls)
       → (block a c msr : List ℕ) → List·Memᴰ (record { call = setup block a c msr; refused = false }) (fed (history calls))
       → (stack : ℕ) → WellTyped (entry stack) → Accepts b (entry stack)
-      → AllPermitted (capabilitiesOf (msrsOf block)) (judged (enteredOf b stack .vmcs))
+      → AllPermitted (capabilitiesOf (msrsOf block)) (enteredOf b stack .vmcs)
   -- the law on waiting, for each event that is queued next
   pub law : (c : Call) → WellTyped c → Accepts b c → (e : Event) → queuedBy c ≡ e ∷ []
       → WaitLaw (stepOf b c .state) (waitingOf (sessionOf b)) e

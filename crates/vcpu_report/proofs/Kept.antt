@@ -32,7 +32,7 @@ use Rattle.vcpu_exit.proofs.Conds.{cond-all}
 use Rattle.vcpu_events.specs.Entry.{windowWord, windowSet}
 use Rattle.vcpu_report.specs.Handlers.{reportWrites, stored, timerSet, cr0Set, cr4Set, eferWrites, eferUpdated, handled, ripAdvanced, vmcsAfter, failureWrites, failureStored}
 use Rattle.vcpu_report.specs.Invariant.{Consistent, PermittedBy, SoundFields, Fits}
-use Rattle.vcpu_report.proofs.Steps.{by-move, by-reason, kept-by}
+use Rattle.vcpu_report.proofs.Steps.{by-move, by-reason, kept-by, kept-other}
 use Rattle.vcpu_report.proofs.Words.{aside-clear, agreed, moved-to}
 
 -- ---- tests
@@ -92,37 +92,19 @@ module _ (c : Capabilities) (ok : Consistent c) where
   kept-window : (u : Vmcs) → SoundFields c u → SoundFields c (windowSet u false)
   unfolding windowSet
   kept-window u k =
-      let w = k .words in
       kept-by c (VmcsControl32.PRIMARY_PROCBASED_EXEC_CONTROLS ≔ windowWord u false ∷ []) u (k .sized)
-      (record {
-        pin = w .pin;
-        primary = aside-clear 32 2 _ _ (valueOf u VmcsControl32.PRIMARY_PROCBASED_EXEC_CONTROLS) (ok .primaryFits) (omega arith) (w .primary);
-        secondary = w .secondary;
-        exit = w .exit;
-        entry = w .entry;
-        cr0 = w .cr0;
-        cr4 = w .cr4;
-      })
+      (search (aside-clear 32 2 _ _ (valueOf u VmcsControl32.PRIMARY_PROCBASED_EXEC_CONTROLS) (ok .primaryFits) (omega arith) (k .words .primary)))
 
   kept-timer : (u : Vmcs) → SoundFields c u → SoundFields c (timerSet u)
   unfolding timerSet
-  kept-timer u k = kept-by c (VmcsGuest32.VMX_PREEMPTION_TIMER_VALUE ≔ VMX_PREEMPTION_TIMER_SET_VALUE ∷ []) u (k .sized) (k .words)
+  kept-timer u k = kept-other c (VmcsGuest32.VMX_PREEMPTION_TIMER_VALUE ≔ VMX_PREEMPTION_TIMER_SET_VALUE ∷ []) u tt k
 
   kept-efer : (u : Vmcs) (efer : ℕ) → (isLongMode efer ≡ false → lacksIa32e (entryPair c .allowed1) ≡ false) → SoundFields c u
       → SoundFields c (eferUpdated u (entryPair c) efer)
   unfolding eferUpdated
   kept-efer u efer follow k =
-      let w = k .words in
       kept-by c (eferWrites (updateEfer (entryPair c) efer (valueOf u VmcsControl32.VMENTRY_CONTROLS))) u (k .sized)
-      (record {
-        pin = w .pin;
-        primary = w .primary;
-        secondary = w .secondary;
-        exit = w .exit;
-        entry = efer-entry (entryPair c) efer (valueOf u VmcsControl32.VMENTRY_CONTROLS) (ok .pairs 4 (omega arith)) follow (w .entry);
-        cr0 = w .cr0;
-        cr4 = w .cr4;
-      })
+      (search (efer-entry (entryPair c) efer (valueOf u VmcsControl32.VMENTRY_CONTROLS) (ok .pairs 4 (omega arith)) follow (k .words .entry)))
 
   -- CR0: what may be 1, what must be 1
   abbrev may0 : ℕ
@@ -146,55 +128,29 @@ module _ (c : Capabilities) (ok : Consistent c) where
   kept-cr0 : (u : Vmcs) (val : ℕ) → SoundFields c u → SoundFields c (cr0Set u (c .cr0) val)
   unfolding cr0Set
   kept-cr0 u val k =
-      let w = k .words in
       kept-by c (cr0Writes (cr0Words (c .cr0 .fixed0) (c .cr0 .fixed1) val)) u (k .sized)
-      (record {
-        pin = w .pin;
-        primary = w .primary;
-        secondary = w .secondary;
-        exit = w .exit;
-        entry = w .entry;
-        cr0 = moved-to may0 must0 (c .cr0 .fixed1) fits0 within-may0 within-must0 val;
-        cr4 = w .cr4;
-      })
+      (search (moved-to may0 must0 (c .cr0 .fixed1) fits0 within-may0 within-must0 val))
 
   kept-cr4 : (u : Vmcs) (val : ℕ) → SoundFields c u → SoundFields c (cr4Set u (c .cr4) val)
   unfolding cr4Set
   kept-cr4 u val k =
-      let w = k .words in
       kept-by c (cr4Writes (cr4Words (c .cr4 .fixed0) (c .cr4 .fixed1) val)) u (k .sized)
-      (record {
-        pin = w .pin;
-        primary = w .primary;
-        secondary = w .secondary;
-        exit = w .exit;
-        entry = w .entry;
-        cr0 = w .cr0;
-        cr4 = moved-to (c .cr4 .fixed1) (c .cr4 .fixed0) (c .cr4 .fixed1) (ok .cr4Fits) within-may4 (ok .cr4) (bitOr val 0x2000);
-      })
+      (search (moved-to (c .cr4 .fixed1) (c .cr4 .fixed0) (c .cr4 .fixed1) (ok .cr4Fits) within-may4 (ok .cr4) (bitOr val 0x2000)))
 
   -- 15 has passed: CR0 and CR4 agree with what was there under the masks
   kept-stored : (v : Vmcs) (r : Report) → Fits r → ownedBitsDiffer v r ≡ false → SoundFields c v → SoundFields c (stored v r)
   unfolding stored ownedBitsDiffer
   kept-stored v r fits e k =
-      let w = k .words in
       let m0 = valueOf v VmcsControlNW.CR0_GUEST_HOST_MASK in
       let m4 = valueOf v VmcsControlNW.CR4_GUEST_HOST_MASK in
       let same = both-same (eqb (bitAnd (r .cr0) m0) (bitAnd (valueOf v VmcsGuestNW.CR0) m0)) (eqb (bitAnd (r .cr4) m4) (bitAnd (valueOf v VmcsGuestNW.CR4) m4)) e in
       kept-by c (reportWrites v r) v (k .sized)
-      (record {
-        pin = w .pin;
-        primary = w .primary;
-        secondary = w .secondary;
-        exit = w .exit;
-        entry = w .entry;
-        cr0 =
-            agreed may0 must0 (c .cr0 .fixed1) fits0 within-may0 within-must0 (valueOf v VmcsGuestNW.CR0) (r .cr0) m0 (fits .cr0)
-            (eqb-true _ _ (same .0)) (w .cr0);
-        cr4 =
-            agreed (c .cr4 .fixed1) (c .cr4 .fixed0) (c .cr4 .fixed1) (ok .cr4Fits) within-may4 (ok .cr4) (valueOf v VmcsGuestNW.CR4) (r .cr4) m4
-            (fits .cr4) (eqb-true _ _ (same .1)) (w .cr4);
-      })
+      (search (
+        agreed may0 must0 (c .cr0 .fixed1) fits0 within-may0 within-must0 (valueOf v VmcsGuestNW.CR0) (r .cr0) m0 (fits .cr0)
+            (eqb-true _ _ (same .0)) (k .words .cr0),
+        agreed (c .cr4 .fixed1) (c .cr4 .fixed0) (c .cr4 .fixed1) (ok .cr4Fits) within-may4 (ok .cr4) (valueOf v VmcsGuestNW.CR4) (r .cr4) m4
+            (fits .cr4) (eqb-true _ _ (same .1)) (k .words .cr4),
+      ))
 
   -- 18 and 8 have passed: a move to CR0 with PG can be followed
   follows : (entry : ℕ) (r : Report) → otherAccess r ≡ false → eferRefusal (entryPair c) entry r ≡ 0 → eqb (reasonOf r) VmxExitReason.CR_ACCESS ≡ true
@@ -216,7 +172,7 @@ module _ (c : Capabilities) (ok : Consistent c) where
 
   kept-advanced : (r : Report) (u : Vmcs) → SoundFields c u → SoundFields c (ripAdvanced u r)
   unfolding ripAdvanced
-  kept-advanced r u k = kept-by c (VmcsGuestNW.RIP ≔ (r .rip + advanceOf r) ∷ []) u (k .sized) (k .words)
+  kept-advanced r u k = kept-other c (VmcsGuestNW.RIP ≔ (r .rip + advanceOf r) ∷ []) u tt k
 
   pub kept-after : (entry : ℕ) (v : Vmcs) (r : Report) → Fits r → ownedBitsDiffer v r ≡ false → otherAccess r ≡ false
       → eferRefusal (entryPair c) entry r ≡ 0 → SoundFields c v → SoundFields c (vmcsAfter v c r)
@@ -225,4 +181,4 @@ module _ (c : Capabilities) (ok : Consistent c) where
 
 pub kept-failure : (c : Capabilities) (v : Vmcs) (r : Report) → SoundFields c v → SoundFields c (failureStored v r)
 unfolding failureStored
-kept-failure c v r k = kept-by c (failureWrites r) v (k .sized) (k .words)
+kept-failure c v r k = kept-other c (failureWrites r) v tt k

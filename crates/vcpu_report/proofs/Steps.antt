@@ -1,11 +1,11 @@
 -- The steps of handling an exit: a property of fields that each way of handling gives, and what lists of writes leave. Assumes nothing.
 use mathlib.Core.Path.{_≡_, refl, _∙_}
-use mathlib.Core.Bool.{Bool, true, false, _||_, true≢false}
+use mathlib.Core.Bool.{Bool, true, false, not, _&&_, _||_, true≢false}
 use mathlib.Core.List.{List, [], _∷_}
 use Prim.Native.Nat.{ℕ, _<_}
-use native.Mathlib.Omega.{arith}
-use lib.Dec.{eqb}
+use lib.Dec.{T, T-not, eqb, ltb, ltb→lt}
 use Rattle.bits.specs.Words.{bit}
+use Rattle.bits.proofs.WordLaws.{and-l, and-r, is-false}
 use Rattle.definitions.specs.VmxExitReason as VmxExitReason
 use Rattle.vmcs.specs.Field.{Field, placeOf, sizeOf, valueOf}
 use Rattle.vmcs.specs.Flags.Cr0Flags as Cr0Flags
@@ -22,7 +22,7 @@ use Rattle.vcpu_exit.specs.declared.Report.{Report}
 use Rattle.vcpu_exit.proofs.Conds.{cond-all}
 use Rattle.vcpu_events.specs.Entry.{windowSet}
 use Rattle.vcpu_report.specs.Handlers.{timerSet, cr0Set, cr4Set, eferUpdated, crHandled, handledAs, handled}
-use Rattle.vcpu_report.specs.Invariant.{Judged, judged, SoundWords, SoundFields}
+use Rattle.vcpu_report.specs.Invariant.{SoundWords, SoundFields}
 use Rattle.vcpu_report.specs.Laws.{oneOf}
 
 -- ---- the ways of handling
@@ -65,36 +65,61 @@ pub kept-field : (ws : List Write) (v : Vmcs) (f : Field) (x : ℕ) → Sized v 
     → valueOf v f ≡ x → valueOf (applied ws v) f ≡ x
 kept-field ws v f x s h e p = read-applied ws v f s h ∙ untouched ws f (valueOf v f) e ∙ p
 
--- ---- the fields that are judged, after a list of writes
+-- ---- the fields that the invariant reads
 
-abbrev pub judgedAfter : List Write → Judged → Judged
-judgedAfter ws j =
+abbrev pub judgedFields : List Field
+judgedFields =
+    VmcsControl32.PINBASED_EXEC_CONTROLS
+    ∷ VmcsControl32.PRIMARY_PROCBASED_EXEC_CONTROLS
+    ∷ VmcsControl32.SECONDARY_PROCBASED_EXEC_CONTROLS
+    ∷ VmcsControl32.VMEXIT_CONTROLS
+    ∷ VmcsControl32.VMENTRY_CONTROLS
+    ∷ VmcsGuestNW.CR0
+    ∷ VmcsGuestNW.CR4
+    ∷ VmcsControlNW.CR0_GUEST_HOST_MASK
+    ∷ VmcsControlNW.CR4_GUEST_HOST_MASK
+    ∷ []
+
+-- the test p passes at each of a list
+abbrev pub every : {A : Type 0} → (A → Bool) → List A → Bool
+every p [] = true
+every p (x ∷ xs) = p x && every p xs
+
+-- b gives each field of a list what a gives it
+abbrev Agree : (Field → ℕ) → (Field → ℕ) → List Field → Type 0
+Agree a b [] = Unit {0}
+Agree a b (f ∷ fs) = (b f ≡ a f) × Agree a b fs
+
+agree : (p : Field → Bool) (a b : Field → ℕ) → ((f : Field) → T (p f) → b f ≡ a f) → (fs : List Field) → T (every p fs) → Agree a b fs
+agree p a b e [] t = tt
+agree p a b e (f ∷ fs) t = (e f (and-l (p f) (every p fs) t), agree p a b e fs (and-r (p f) (every p fs) t))
+
+-- the invariant looks at no other field
+same-words : (c : Capabilities) (a b : Field → ℕ) → Agree a b judgedFields → SoundWords c a → SoundWords c b
+same-words c a b (pin, (primary, (secondary, (exit, (entry, (cr0, (cr4, (cr0mask, (cr4mask, _))))))))) w =
     record {
-      pin = lastOf ws VmcsControl32.PINBASED_EXEC_CONTROLS (j .pin);
-      primary = lastOf ws VmcsControl32.PRIMARY_PROCBASED_EXEC_CONTROLS (j .primary);
-      secondary = lastOf ws VmcsControl32.SECONDARY_PROCBASED_EXEC_CONTROLS (j .secondary);
-      exit = lastOf ws VmcsControl32.VMEXIT_CONTROLS (j .exit);
-      entry = lastOf ws VmcsControl32.VMENTRY_CONTROLS (j .entry);
-      cr0 = lastOf ws VmcsGuestNW.CR0 (j .cr0);
-      cr0mask = lastOf ws VmcsControlNW.CR0_GUEST_HOST_MASK (j .cr0mask);
-      cr4 = lastOf ws VmcsGuestNW.CR4 (j .cr4);
-      cr4mask = lastOf ws VmcsControlNW.CR4_GUEST_HOST_MASK (j .cr4mask);
+      pin = rw pin (w .pin);
+      primary = rw primary (w .primary);
+      secondary = rw secondary (w .secondary);
+      exit = rw exit (w .exit);
+      entry = rw entry (w .entry);
+      cr0 = rw (cr0, cr0mask) (w .cr0);
+      cr4 = rw (cr4, cr4mask) (w .cr4);
     }
 
-judged-applied : (ws : List Write) (v : Vmcs) → Sized v → judged (applied ws v) ≡ judgedAfter ws (judged v)
-judged-applied ws v s =
-    cc (
-      read-applied ws v VmcsControl32.PINBASED_EXEC_CONTROLS s (omega arith),
-      read-applied ws v VmcsControl32.PRIMARY_PROCBASED_EXEC_CONTROLS s (omega arith),
-      read-applied ws v VmcsControl32.SECONDARY_PROCBASED_EXEC_CONTROLS s (omega arith),
-      read-applied ws v VmcsControl32.VMEXIT_CONTROLS s (omega arith),
-      read-applied ws v VmcsControl32.VMENTRY_CONTROLS s (omega arith),
-      read-applied ws v VmcsGuestNW.CR0 s (omega arith),
-      read-applied ws v VmcsControlNW.CR0_GUEST_HOST_MASK s (omega arith),
-      read-applied ws v VmcsGuestNW.CR4 s (omega arith),
-      read-applied ws v VmcsControlNW.CR4_GUEST_HOST_MASK s (omega arith),
-    )
+-- a list of writes keeps the invariant where what it leaves in the fields does
+pub kept-by : (c : Capabilities) (ws : List Write) (v : Vmcs) → Sized v → SoundWords c (λ f. lastOf ws f (valueOf v f)) → SoundFields c (applied ws v)
+kept-by c ws v s w =
+    record {
+      sized = sized-applied ws v s;
+      words = same-words c _ _ (agree (λ f. ltb (placeOf f) (sizeOf f)) _ _ (λ f t. read-applied ws v f s (ltb→lt _ _ t)) judgedFields tt) w;
+    }
 
--- a list of writes keeps the invariant where what it leaves in the judged fields does
-pub kept-by : (c : Capabilities) (ws : List Write) (v : Vmcs) → Sized v → SoundWords c (judgedAfter ws (judged v)) → SoundFields c (applied ws v)
-kept-by c ws v s p = record { sized = sized-applied ws v s; words = rw (judged-applied ws v s) p }
+-- and where it writes none of these fields
+pub kept-other : (c : Capabilities) (ws : List Write) (v : Vmcs) → T (every (λ f. not (oneOf (fieldsOf ws) f)) judgedFields) → SoundFields c v
+    → SoundFields c (applied ws v)
+kept-other c ws v other k =
+    kept-by c ws v (k .sized)
+    (same-words c (valueOf v) _
+    (agree (λ f. not (oneOf (fieldsOf ws) f)) _ _
+    (λ f t. untouched ws f (valueOf v f) (is-false (oneOf (fieldsOf ws) f) (T-not (oneOf (fieldsOf ws) f) t))) judgedFields other) (k .words))

@@ -12,9 +12,12 @@ use Rattle.bits.proofs.BitLaws.{bit-of-zero}
 use Rattle.bits.proofs.WordLaws as W
 use Rattle.bits.proofs.WordLaws.{words}
 use Rattle.vmcs.specs.Cr.{cr0Free, crWords}
+use Rattle.vmcs.specs.Field.{valueOf}
+use Rattle.vmcs.specs.Names.VmcsControl32 as VmcsControl32
+use Rattle.vmcs.specs.declared.Vmcs.{Vmcs}
 use Rattle.vmcs.proofs.CrLaws.{same-permitted}
 use Rattle.vcpu_session.specs.declared.Capabilities.{Capabilities}
-use Rattle.vcpu_report.specs.Invariant.{Consistent, Judged, PermittedAside, AllPermitted, Owned, SoundWords}
+use Rattle.vcpu_report.specs.Invariant.{Consistent, PermittedAside, AllPermitted, Owned, SoundWords}
 
 -- ---- bit k aside
 
@@ -66,12 +69,12 @@ module _ (must0 must1 fixed1 : ℕ) (fits : must0 < 2 ^ 64) (may : Within must0 
 
 -- ---- the invariant gives what is judged
 
-pub sound-permitted : (c : Capabilities) (j : Judged) → Consistent c → SoundWords c j → AllPermitted c j
-sound-permitted c j ok h =
+pub sound-permitted : (c : Capabilities) (v : Vmcs) → Consistent c → SoundWords c (valueOf v) → AllPermitted c v
+sound-permitted c v ok h =
     record {
       pin = h .pin;
       primary = h .primary;
-      window = λ may need. whole-of 2 _ _ (j .primary) (h .primary) may need;
+      window = λ may need. whole-of 2 _ _ (valueOf v VmcsControl32.PRIMARY_PROCBASED_EXEC_CONTROLS) (h .primary) may need;
       secondary = h .secondary;
       exit = h .exit;
       entry = h .entry;

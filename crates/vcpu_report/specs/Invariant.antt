@@ -6,7 +6,7 @@ use lib.Dec.{T}
 use Rattle.bits.specs.Words.{bit, bitNot, Within, Permitted, PermittedBut}
 use Rattle.vmcs.specs.Control.{pairAt}
 use Rattle.vmcs.specs.Cr.{cr0Free, cr0Off}
-use Rattle.vmcs.specs.Field.{valueOf}
+use Rattle.vmcs.specs.Field.{Field, valueOf}
 use Rattle.vmcs.specs.Flags.PrimaryControls as PrimaryControls
 use Rattle.vmcs.specs.Names.VmcsControl32 as VmcsControl32
 use Rattle.vmcs.specs.Names.VmcsControlNW as VmcsControlNW
@@ -28,33 +28,6 @@ pub record Consistent (c : Capabilities) : Type 0 where
   pub cr0Fits : c .cr0 .fixed1 < 2 ^ 64
   pub cr4Fits : c .cr4 .fixed1 < 2 ^ 64
 
--- ---- the fields that are judged
-
-pub record Judged : Type 0 where
-  pub pin : ℕ
-  pub primary : ℕ
-  pub secondary : ℕ
-  pub exit : ℕ
-  pub entry : ℕ
-  pub cr0 : ℕ
-  pub cr0mask : ℕ
-  pub cr4 : ℕ
-  pub cr4mask : ℕ
-
-abbrev pub judged : Vmcs → Judged
-judged v =
-    record {
-      pin = valueOf v VmcsControl32.PINBASED_EXEC_CONTROLS;
-      primary = valueOf v VmcsControl32.PRIMARY_PROCBASED_EXEC_CONTROLS;
-      secondary = valueOf v VmcsControl32.SECONDARY_PROCBASED_EXEC_CONTROLS;
-      exit = valueOf v VmcsControl32.VMEXIT_CONTROLS;
-      entry = valueOf v VmcsControl32.VMENTRY_CONTROLS;
-      cr0 = valueOf v VmcsGuestNW.CR0;
-      cr0mask = valueOf v VmcsControlNW.CR0_GUEST_HOST_MASK;
-      cr4 = valueOf v VmcsGuestNW.CR4;
-      cr4mask = valueOf v VmcsControlNW.CR4_GUEST_HOST_MASK;
-    }
-
 -- ---- what is judged in the session that an entry returns
 
 abbrev pub PermittedBy : Pair → ℕ → Type 0
@@ -67,16 +40,16 @@ pub record PermittedAside (k low high word : ℕ) : Type 0 where
 
 -- each word by its pair, and CR0 (PE and PG may be clear) and CR4 by their fixed bits. Interrupt-window exiting, primary bit 2, is judged
 -- where only allowed-1 has it
-pub record AllPermitted (c : Capabilities) (j : Judged) : Type 0 where
-  pub pin : PermittedBy (pairAt (c .pairs) 0) (j .pin)
-  pub primary : PermittedAside PrimaryControls.INTERRUPT_WINDOW_EXITING (pairAt (c .pairs) 1 .allowed0) (pairAt (c .pairs) 1 .allowed1) (j .primary)
+pub record AllPermitted (c : Capabilities) (v : Vmcs) : Type 0 where
+  pub pin : PermittedBy (pairAt (c .pairs) 0) (valueOf v VmcsControl32.PINBASED_EXEC_CONTROLS)
+  pub primary : PermittedAside PrimaryControls.INTERRUPT_WINDOW_EXITING (pairAt (c .pairs) 1 .allowed0) (pairAt (c .pairs) 1 .allowed1) (valueOf v VmcsControl32.PRIMARY_PROCBASED_EXEC_CONTROLS)
   pub window : T (bit PrimaryControls.INTERRUPT_WINDOW_EXITING (pairAt (c .pairs) 1 .allowed1))
-      → (T (bit PrimaryControls.INTERRUPT_WINDOW_EXITING (pairAt (c .pairs) 1 .allowed0)) → ⊥) → PermittedBy (pairAt (c .pairs) 1) (j .primary)
-  pub secondary : PermittedBy (pairAt (c .pairs) 2) (j .secondary)
-  pub exit : PermittedBy (pairAt (c .pairs) 3) (j .exit)
-  pub entry : PermittedBy (pairAt (c .pairs) 4) (j .entry)
-  pub cr0 : PermittedBut cr0Free (c .cr0 .fixed0) (c .cr0 .fixed1) (j .cr0)
-  pub cr4 : PermittedBut 0 (c .cr4 .fixed0) (c .cr4 .fixed1) (j .cr4)
+      → (T (bit PrimaryControls.INTERRUPT_WINDOW_EXITING (pairAt (c .pairs) 1 .allowed0)) → ⊥) → PermittedBy (pairAt (c .pairs) 1) (valueOf v VmcsControl32.PRIMARY_PROCBASED_EXEC_CONTROLS)
+  pub secondary : PermittedBy (pairAt (c .pairs) 2) (valueOf v VmcsControl32.SECONDARY_PROCBASED_EXEC_CONTROLS)
+  pub exit : PermittedBy (pairAt (c .pairs) 3) (valueOf v VmcsControl32.VMEXIT_CONTROLS)
+  pub entry : PermittedBy (pairAt (c .pairs) 4) (valueOf v VmcsControl32.VMENTRY_CONTROLS)
+  pub cr0 : PermittedBut cr0Free (c .cr0 .fixed0) (c .cr0 .fixed1) (valueOf v VmcsGuestNW.CR0)
+  pub cr4 : PermittedBut 0 (c .cr4 .fixed0) (c .cr4 .fixed1) (valueOf v VmcsGuestNW.CR4)
 
 -- ---- the invariant
 
@@ -87,18 +60,18 @@ pub record Owned (must0 must1 fixed1 value mask : ℕ) : Type 0 where
   pub owns : mask ≡ bitOr must1 (bitNot 64 must0)
 
 -- the five words are permitted, primary bit 2 aside, and CR0 and CR4 and their masks are as `cr0Words` and `cr4Words` make them
-pub record SoundWords (c : Capabilities) (j : Judged) : Type 0 where
-  pub pin : PermittedBy (pairAt (c .pairs) 0) (j .pin)
-  pub primary : PermittedAside PrimaryControls.INTERRUPT_WINDOW_EXITING (pairAt (c .pairs) 1 .allowed0) (pairAt (c .pairs) 1 .allowed1) (j .primary)
-  pub secondary : PermittedBy (pairAt (c .pairs) 2) (j .secondary)
-  pub exit : PermittedBy (pairAt (c .pairs) 3) (j .exit)
-  pub entry : PermittedBy (pairAt (c .pairs) 4) (j .entry)
-  pub cr0 : Owned (bitAnd (c .cr0 .fixed1) (bitNot 64 cr0Off)) (bitAnd (c .cr0 .fixed0) (bitNot 64 cr0Free)) (c .cr0 .fixed1) (j .cr0) (j .cr0mask)
-  pub cr4 : Owned (c .cr4 .fixed1) (c .cr4 .fixed0) (c .cr4 .fixed1) (j .cr4) (j .cr4mask)
+pub record SoundWords (c : Capabilities) (value : Field → ℕ) : Type 0 where
+  pub pin : PermittedBy (pairAt (c .pairs) 0) (value VmcsControl32.PINBASED_EXEC_CONTROLS)
+  pub primary : PermittedAside PrimaryControls.INTERRUPT_WINDOW_EXITING (pairAt (c .pairs) 1 .allowed0) (pairAt (c .pairs) 1 .allowed1) (value VmcsControl32.PRIMARY_PROCBASED_EXEC_CONTROLS)
+  pub secondary : PermittedBy (pairAt (c .pairs) 2) (value VmcsControl32.SECONDARY_PROCBASED_EXEC_CONTROLS)
+  pub exit : PermittedBy (pairAt (c .pairs) 3) (value VmcsControl32.VMEXIT_CONTROLS)
+  pub entry : PermittedBy (pairAt (c .pairs) 4) (value VmcsControl32.VMENTRY_CONTROLS)
+  pub cr0 : Owned (bitAnd (c .cr0 .fixed1) (bitNot 64 cr0Off)) (bitAnd (c .cr0 .fixed0) (bitNot 64 cr0Free)) (c .cr0 .fixed1) (value VmcsGuestNW.CR0) (value VmcsControlNW.CR0_GUEST_HOST_MASK)
+  pub cr4 : Owned (c .cr4 .fixed1) (c .cr4 .fixed0) (c .cr4 .fixed1) (value VmcsGuestNW.CR4) (value VmcsControlNW.CR4_GUEST_HOST_MASK)
 
 pub record SoundFields (c : Capabilities) (v : Vmcs) : Type 0 where
   pub sized : Sized v
-  pub words : SoundWords c (judged v)
+  pub words : SoundWords c (valueOf v)
 
 abbrev pub Sound : Session → Type 0
 Sound s = SoundFields (s .capabilities) (s .vmcs)

@@ -78,22 +78,20 @@ use Rattle.vcpu_report.proofs.Words.{aside-of, aside-set, sound-permitted}
 abbrev NoneOf : List Field → Field → Type 0
 NoneOf fs g = T (every (λ f. not (oneOf (g ∷ []) f)) fs)
 
--- the fields that the encodings lead to
-same-fields : map fieldOf Demand.judgedFields ≡ judgedFields
+abbrev listed : ℕ → Bool
+listed x = ltb (positionOf encodings x) 154
+
+-- the encodings are listed, and lead to the fields that the invariant reads
+judged-fields : T (every listed Demand.judgedFields) × (map fieldOf Demand.judgedFields ≡ judgedFields)
 unfolding encodings named fieldAt
-same-fields = refl
+judged-fields = (tt, refl)
 
-all-listed : T (every (λ x. ltb (positionOf encodings x) 154) Demand.judgedFields)
-unfolding encodings named
-all-listed = tt
-
-raw-other : (e : ℕ) → positionOf encodings e < 154 → (xs : List ℕ) → T (every (λ x. ltb (positionOf encodings x) 154) xs)
-    → ((x : ℕ) → List·Memᴰ x xs → e ≢ x) → NoneOf (map fieldOf xs) (fieldOf e)
+raw-other : (e : ℕ) → positionOf encodings e < 154 → (xs : List ℕ) → T (every listed xs) → ((x : ℕ) → List·Memᴰ x xs → e ≢ x)
+    → NoneOf (map fieldOf xs) (fieldOf e)
 raw-other e h [] l n = tt
 raw-other e h (x ∷ xs) l n =
-    let rest = every (λ x. ltb (positionOf encodings x) 154) xs in
-    rw (other-field e x h (ltb→lt _ _ (and-l (ltb (positionOf encodings x) 154) rest l)) (n x (List·Memᴰ·head refl)))
-    (raw-other e h xs (and-r (ltb (positionOf encodings x) 154) rest l) (λ y m. n y (List·Memᴰ·tail m)))
+    rw (other-field e x h (ltb→lt _ _ (and-l (listed x) (every listed xs) l)) (n x (List·Memᴰ·head refl)))
+    (raw-other e h xs (and-r (listed x) (every listed xs) l) (λ y m. n y (List·Memᴰ·tail m)))
 
 module _ (c : Capabilities) where
   put-kept : (v : Vmcs) (g : Field) (x : ℕ) → NoneOf judgedFields g → SoundFields c v → SoundFields c (put v g x)
@@ -101,7 +99,8 @@ module _ (c : Capabilities) where
 
   raw-kept : (v : Vmcs) (e x : ℕ) → positionOf encodings e < 154 → ((y : ℕ) → List·Memᴰ y Demand.judgedFields → e ≢ y) → SoundFields c v
       → SoundFields c (put v (fieldOf e) x)
-  raw-kept v e x h n k = put-kept v (fieldOf e) x (subst (λ fs. NoneOf fs (fieldOf e)) same-fields (raw-other e h Demand.judgedFields all-listed n)) k
+  raw-kept v e x h n k =
+      put-kept v (fieldOf e) x (subst (λ fs. NoneOf fs (fieldOf e)) (judged-fields .1) (raw-other e h Demand.judgedFields (judged-fields .0) n)) k
 
   -- the window: only the primary controls
   window-kept : (v : Vmcs) → SoundFields c v → SoundFields c (windowSet v true)
@@ -127,6 +126,9 @@ pub record Kept (c : Capabilities) (s : Session) : Type 0 where
   pub fields : SoundFields c (s .vmcs)
 
 module _ (c : Capabilities) where
+  abbrev Leaves : Answered → Type 0
+  Leaves a = Kept c (a .session)
+
   -- a session with these capabilities and fields
   with-fields : (s t : Session) → t .capabilities ≡ s .capabilities → SoundFields c (t .vmcs) → Kept c s → Kept c t
   with-fields s t e f k = record { consistent = k .consistent; capabilities = e ∙ k .capabilities; fields = f }
@@ -145,12 +147,9 @@ module _ (c : Capabilities) where
   queue-kept : (s : Session) (e : Core.Event) → Kept c s → Kept c (Queue.queueEvent s e .session)
   unfolding Queue.queueEvent
   queue-kept s e k =
-      cond-all P (isUnlawful s) _ _ (λ _. k)
-      (λ _. cond-all P (eqb (s .progress .phase) 4) _ _ (λ _. k)
-      (λ _. cond-all P (leb 64 (s .queue .waiting)) _ _ (λ _. k) (λ _. with-fields s _ refl (k .fields) k)))
-    where
-      P : Answered → Type 0
-      P a = Kept c (a .session)
+      cond-all Leaves (isUnlawful s) _ _ (λ _. k)
+      (λ _. cond-all Leaves (eqb (s .progress .phase) 4) _ _ (λ _. k)
+      (λ _. cond-all Leaves (leb 64 (s .queue .waiting)) _ _ (λ _. k) (λ _. with-fields s _ refl (k .fields) k)))
 
   report-kept : (s : Session) (r : Report) → Kept c s → FitsReport r → Kept c (Exit.exitReport s r .session)
   report-kept s r k w =
@@ -165,28 +164,19 @@ module _ (c : Capabilities) where
   unfolding queueStep Queue.injectInterrupt Access.apicValue Access.writeField Access.setRegister vmcsWrite withRegOfIndex setupOf
   step-kept s (setup block a b msr) w f n k =
       let x = argumentsOf block in
-      cond-all P (hasBuffers block a b msr) _ _
-      (λ _. cond-all P (eqb (setupRefusal s (capabilitiesOf (x .msrs)) (x .features)) 0) _ _
+      cond-all Leaves (hasBuffers block a b msr) _ _
+      (λ _. cond-all Leaves (eqb (setupRefusal s (capabilitiesOf (x .msrs)) (x .features)) 0) _ _
       (λ t. absurd (f (eqb-true _ _ (passed s (capabilitiesOf (x .msrs)) (x .features) (eqb-true _ _ t) .1)))) (λ _. k)) (λ _. k)
-    where
-      P : Answered → Type 0
-      P a = Kept c (a .session)
-  step-kept s (queueEvent vector coded code) w f n k = cond-all (λ (a : Answered). Kept c (a .session)) (ltb 1 coded) _ _ (λ _. k) (λ _. queue-kept s _ k)
+  step-kept s (queueEvent vector coded code) w f n k = cond-all Leaves (ltb 1 coded) _ _ (λ _. k) (λ _. queue-kept s _ k)
   step-kept s (injectInterrupt vector) w f n k =
-      cond-all P (isUnlawful s) _ _ (λ _. k)
-      (λ _. cond-all P (eqb (s .progress .phase) 4) _ _ (λ _. k)
-      (λ _. cond-all P (eqb vector 0) _ _ (λ _. k) (λ _. cond-all P (ltb 255 vector) _ _ (λ _. k) (λ _. queue-kept s _ k))))
-    where
-      P : Answered → Type 0
-      P a = Kept c (a .session)
+      cond-all Leaves (isUnlawful s) _ _ (λ _. k)
+      (λ _. cond-all Leaves (eqb (s .progress .phase) 4) _ _ (λ _. k)
+      (λ _. cond-all Leaves (eqb vector 0) _ _ (λ _. k) (λ _. cond-all Leaves (ltb 255 vector) _ _ (λ _. k) (λ _. queue-kept s _ k))))
   step-kept s (entry stack) w f n k = enter-kept s stack k
   step-kept s (exitReport block) w f n k =
-      cond-all (λ (a : Answered). Kept c (a .session)) (Report.blockAccepted block) _ _ (λ _. report-kept s (reportOf block) k (block-fits block w)) (λ _. k)
+      cond-all Leaves (Report.blockAccepted block) _ _ (λ _. report-kept s (reportOf block) k (block-fits block w)) (λ _. k)
   step-kept s (apicValue value) w f n k =
-      cond-all P (isUnlawful s) _ _ (λ _. k) (λ _. cond-all P (not (eqb (s .progress .phase) 3)) _ _ (λ _. k) (λ _. with-fields s _ refl (k .fields) k))
-    where
-      P : Answered → Type 0
-      P a = Kept c (a .session)
+      cond-all Leaves (isUnlawful s) _ _ (λ _. k) (λ _. cond-all Leaves (not (eqb (s .progress .phase) 3)) _ _ (λ _. k) (λ _. with-fields s _ refl (k .fields) k))
   step-kept s (fieldWrite e v) w f n k =
       (cond-all P (isUnlawful s) _ _ (λ _ _ k. k)
       (λ _. cond-all Q (leb 154 (positionOf encodings e)) _ _ (λ _ _ k. k)
@@ -201,14 +191,11 @@ module _ (c : Capabilities) where
       Q : FieldsWritten → Type 0
       Q a = P (fieldsWritten s a)
   step-kept s (registerWrite i v) w f n k =
-      cond-all P (isUnlawful s) _ _ (λ _. k) (λ _. cond-all Q (ltb 15 i) _ _ (λ _. k)
+      cond-all Leaves (isUnlawful s) _ _ (λ _. k) (λ _. cond-all Q (ltb 15 i) _ _ (λ _. k)
       (λ _. cond-all Q (eqb i 4) _ _ (λ _. k) (λ _. with-fields s _ refl (k .fields) k)))
     where
-      P : Answered → Type 0
-      P a = Kept c (a .session)
-
       Q : RegWritten → Type 0
-      Q a = P (registersWritten s a)
+      Q a = Leaves (registersWritten s a)
 
 -- ---- the phase never goes back to fresh
 

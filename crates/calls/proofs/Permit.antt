@@ -178,15 +178,15 @@ module _ (c : Capabilities) where
   step-kept s (apicValue value) w f n k =
       cond-all Leaves (isUnlawful s) _ _ (λ _. k) (λ _. cond-all Leaves (not (eqb (s .progress .phase) 3)) _ _ (λ _. k) (λ _. with-fields s _ refl (k .fields) k))
   step-kept s (fieldWrite e v) w f n k =
-      (cond-all P (isUnlawful s) _ _ (λ _ _ k. k)
-      (λ _. cond-all Q (leb 154 (positionOf encodings e)) _ _ (λ _ _ k. k)
-      (λ t. cond-all Q (readOnly e) _ _ (λ _ _ k. k)
-      (λ _. cond-all Q (ltb (greatestOf e) v) _ _ (λ _ _ k. k)
-      (λ _ n k. with-fields s _ refl
-      (raw-kept c (s .vmcs) e v (leb-false 154 (positionOf encodings e) t) (λ x m. eqb-false e x (n x m)) (k .fields)) k))))) n k
+      (cond-all P (isUnlawful s) _ _ (λ _ _. k)
+      (λ _. cond-all Q (leb 154 (positionOf encodings e)) _ _ (λ _ _. k)
+      (λ t. cond-all Q (readOnly e) _ _ (λ _ _. k)
+      (λ _. cond-all Q (ltb (greatestOf e) v) _ _ (λ _ _. k)
+      (λ _ n. with-fields s _ refl
+      (raw-kept c (s .vmcs) e v (leb-false 154 (positionOf encodings e) t) (λ x m. eqb-false e x (n x m)) (k .fields)) k))))) n
     where
       P : Answered → Type 0
-      P a = ((x : ℕ) → List·Memᴰ x Demand.judgedFields → cond (isRefused (a .refusal)) false (eqb e x) ≡ false) → Kept c s → Kept c (a .session)
+      P a = ((x : ℕ) → List·Memᴰ x Demand.judgedFields → cond (isRefused (a .refusal)) false (eqb e x) ≡ false) → Leaves a
 
       Q : FieldsWritten → Type 0
       Q a = P (fieldsWritten s a)

@@ -47,7 +47,7 @@ abbrev pub fieldsOf : List Write → List Field
 fieldsOf [] = []
 fieldsOf (w ∷ ws) = w .field ∷ fieldsOf ws
 
-neither : (a b : Bool) → (a || b) ≡ false → (a ≡ false) × (b ≡ false)
+pub neither : (a b : Bool) → (a || b) ≡ false → (a ≡ false) × (b ≡ false)
 neither false b e = (refl, e)
 neither true b e = absurd (true≢false e)
 
@@ -56,10 +56,6 @@ untouched [] f x e = refl
 untouched (w ∷ ws) f x e =
     let p = neither (sameField (w .field) f) (oneOf (fieldsOf ws) f) e in
     rw (p .0) (untouched ws f x (p .1))
-
--- the first of a list is not the field, nor is one of the rest
-pub split : (g : Field) (gs : List Field) (f : Field) → oneOf (g ∷ gs) f ≡ false → (sameField g f ≡ false) × (oneOf gs f ≡ false)
-split g gs f e = neither (sameField g f) (oneOf gs f) e
 
 pub kept-field : (ws : List Write) (v : Vmcs) (f : Field) (x : ℕ) → Sized v → placeOf f < sizeOf f → oneOf (fieldsOf ws) f ≡ false
     → valueOf v f ≡ x → valueOf (applied ws v) f ≡ x

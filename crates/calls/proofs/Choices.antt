@@ -1,6 +1,6 @@
 -- Choices by a test and by a decision. Assumes nothing.
 use mathlib.Core.Path.{_≡_, refl}
-use mathlib.Core.Bool.{Bool, true, false, cond, true≢false, false≢true, _||_}
+use mathlib.Core.Bool.{Bool, true, false, cond, false≢true}
 use Rattle.calls.specs.Reference.{choose}
 
 -- what holds of each choice, under its test, holds of the choice
@@ -34,7 +34,3 @@ choose-all Q (no n) x y a b = b
 pub choose-ap : {P A B : Type 0} (f : A → B) (d : Dec P) (x y : A) → f (choose d x y) ≡ choose d (f x) (f y)
 choose-ap f (yes p) x y = refl
 choose-ap f (no n) x y = refl
-
-pub neither : (a b : Bool) → (a || b) ≡ false → (a ≡ false) × (b ≡ false)
-neither true b e = absurd (true≢false e)
-neither false b e = (refl, e)

@@ -5,16 +5,14 @@ use mathlib.Core.Bool.{Bool, true, false, cond, not, true≢false}
 use mathlib.Core.List.{List, [], _∷_, map, List·Memᴰ, List·Memᴰ·head, List·Memᴰ·tail, List·Memᴰ·cases-cons, List·Memᴰ·not-nil}
 use mathlib.Core.Logic.{_≢_, inl, inr}
 use native.Mathlib.Omega.{arith}
-use lib.Bits.{bitAnd, bitOr}
 use lib.Dec.{T, eqb, leb, ltb, ltb→lt, lit<}
 use borrow.Author.Tests.{eqb-true, eqb-false, leb-false}
-use Rattle.bits.specs.Words.{bit, bitNot, Within}
-use Rattle.bits.proofs.WordLaws as W
+use Rattle.bits.specs.Words.{bit, Within}
 use Rattle.bits.proofs.WordLaws.{and-l, and-r}
 use Rattle.regs.specs.Registers.{withRegOfIndex}
 use Rattle.regs.specs.declared.RegWritten.{RegWritten}
 use Rattle.vmcs.specs.Control.{pairAt}
-use Rattle.vmcs.specs.Cr.{cr0Free, cr0Off, firstCr0}
+use Rattle.vmcs.specs.Cr.{firstCr0}
 use Rattle.vmcs.specs.Field.{Field, put}
 use Rattle.vmcs.specs.Fields.{positionOf, fieldAt, fieldOf, greatestOf, readOnly, vmcsWrite}
 use Rattle.vmcs.specs.Named.{named, encodings}
@@ -57,7 +55,7 @@ use Rattle.calls.specs.Reference.{Call, setup, queueEvent, injectInterru
 use Rattle.calls.specs.Calls.{isRefused, Logged, fed, writesField, written, viewOf}
 use Rattle.calls.specs.DemandThree as Demand
 use Rattle.calls.specs.DemandThree.{Unwritten}
-use Rattle.calls.proofs.Choices.{cond-all, choose-all, neither}
+use Rattle.calls.proofs.Choices.{cond-all, choose-all}
 use Rattle.calls.proofs.RawWrites.{other-field}
 use Rattle.calls.proofs.Fields.{stack-keeps, injection-keeps}
 use Rattle.calls.proofs.Sessions.{hasBuffers, next, sessionAfter, sessionLogged, sessionLog, Sound, sound-sized}
@@ -67,9 +65,10 @@ use Rattle.calls.proofs.ReportFits.{FitsReport, block-fits}
 use Rattle.calls.proofs.Fits.{sound-step}
 use Rattle.calls.proofs.Steps.{step, block-msrs}
 use Rattle.calls.proofs.Whole.{accepts}
-use Rattle.vcpu_report.specs.Invariant.{Consistent, AllPermitted, Owned, SoundFields}
+use Rattle.vcpu_report.specs.Invariant.{Consistent, AllPermitted, SoundFields}
 use Rattle.vcpu_report.specs.Laws.{oneOf}
-use Rattle.vcpu_report.proofs.Steps.{judgedFields, every, kept-by, kept-other}
+use Rattle.vcpu_report.proofs.Steps.{neither, judgedFields, every, kept-by, kept-other}
+use Rattle.vcpu_report.proofs.Kept.{owned-cr0, owned-cr4}
 use Rattle.vcpu_report.proofs.Words.{aside-of, aside-set, sound-permitted}
 
 -- ---- what writes none of the judged fields
@@ -226,12 +225,9 @@ unwritten-at [] ls u x m = absurd (List·Memᴰ·not-nil m)
 unwritten-at (y ∷ ys) ls u x m =
     elim (List·Memᴰ·cases-cons m) [ inl e ↦ subst (λ (z : ℕ). written z ls ≡ false) (sym e) (u .0) | inr t ↦ unwritten-at ys ls (u .1) x t ]
 
-first-free : (s : Session) (c : Call) (cs : List Call) → Free (sessionLog s (c ∷ cs)) → (x : ℕ) → List·Memᴰ x Demand.judgedFields
-    → cond (isRefused (sessionLogged s c .refusal)) false (writesField x c) ≡ false
-first-free s c cs n x m = neither (cond (isRefused (sessionLogged s c .refusal)) false (writesField x c)) (written x (sessionLog (next s c) cs)) (n x m) .0
-
-rest-free : (s : Session) (c : Call) (cs : List Call) → Free (sessionLog s (c ∷ cs)) → Free (sessionLog (next s c) cs)
-rest-free s c cs n x m = neither (cond (isRefused (sessionLogged s c .refusal)) false (writesField x c)) (written x (sessionLog (next s c) cs)) (n x m) .1
+split-free : (s : Session) (c : Call) (cs : List Call) → Free (sessionLog s (c ∷ cs)) → (x : ℕ) → List·Memᴰ x Demand.judgedFields
+    → (cond (isRefused (sessionLogged s c .refusal)) false (writesField x c) ≡ false) × (written x (sessionLog (next s c) cs) ≡ false)
+split-free s c cs n x m = neither (cond (isRefused (sessionLogged s c .refusal)) false (writesField x c)) (written x (sessionLog (next s c) cs)) (n x m)
 
 kept-after : (p : Capabilities) (s : Session) (cs : List Call) → AllWellTyped cs → Sound s → s .progress .phase ≢ 0 → Free (sessionLog s cs) → Kept p s
     → Kept p (sessionAfter s cs)
@@ -239,14 +235,9 @@ kept-after p s [] w h f n k = k
 kept-after p s (c ∷ cs) w h f n k =
     kept-after p (next s c) cs (w .1) (sound-step s c (w .0) h)
     (λ e. phase-on (viewOf [] s) c (isRefused (sessionLogged s c .refusal)) f (sym (ap (λ (r : Reference). r .phase) (step [] s c (w .0) h .state)) ∙ e))
-    (rest-free s c cs n) (step-kept p s c (w .0) f (first-free s c cs n) k)
+    (λ x m. split-free s c cs n x m .1) (step-kept p s c (w .0) f (λ x m. split-free s c cs n x m .0) k)
 
 -- ---- an accepted setup
-
-owned-of : (must0 must1 fixed1 val value mask : ℕ) → value ≡ bitOr (bitAnd val must0) must1 → mask ≡ bitOr must1 (bitNot 64 must0) → Within value fixed1
-    → Owned must0 must1 fixed1 value mask
-owned-of must0 must1 fixed1 val value mask e o w =
-    record { has = rw e (W.within-or-r (bitAnd val must0) must1 must1 (W.within-refl must1)); within = w; owns = o }
 
 -- what acceptance says of the words
 consistent-kept : (m : CapabilityMsrs) → Typed m → consistent (capabilitiesOf m) ≡ true → Consistent (capabilitiesOf m)
@@ -272,23 +263,21 @@ consistent-kept m fixed e =
 set-up-kept : (s t : Session) (x : Arguments) → Consistent (capabilitiesOf (x .msrs)) → SetUp s x t → Kept (capabilitiesOf (x .msrs)) t
 unfolding setupWrites
 set-up-kept s t x ok u =
-    let p = u .words .permitted in
-    let m = x .msrs in
+    let w = u .words .permitted in
+    let p = capabilitiesOf (x .msrs) in
     record {
       consistent = ok;
       capabilities = u .capabilities;
       fields = record {
         sized = u .sized;
         words = record {
-          pin = p 0 (lit< tt);
-          primary = aside-of 2 _ _ _ (p 1 (lit< tt));
-          secondary = p 2 (lit< tt);
-          exit = p 3 (lit< tt);
-          entry = p 4 (lit< tt);
-          cr0 = owned-of (bitAnd (m .cr0fixed1) (bitNot 64 cr0Off)) (bitAnd (m .cr0fixed0) (bitNot 64 cr0Free)) (m .cr0fixed1) firstCr0 _ _
-              (u .fields VmcsGuestNW.CR0 (lit< tt)) (u .fields VmcsControlNW.CR0_GUEST_HOST_MASK (lit< tt)) (u .cr0 .allowed);
-          cr4 = owned-of (m .cr4fixed1) (m .cr4fixed0) (m .cr4fixed1) 0x2000 _ _ (u .fields VmcsGuestNW.CR4 (lit< tt))
-              (u .fields VmcsControlNW.CR4_GUEST_HOST_MASK (lit< tt)) (u .cr4 .allowed);
+          pin = w 0 (lit< tt);
+          primary = aside-of 2 _ _ _ (w 1 (lit< tt));
+          secondary = w 2 (lit< tt);
+          exit = w 3 (lit< tt);
+          entry = w 4 (lit< tt);
+          cr0 = rw (u .fields VmcsGuestNW.CR0 (lit< tt), u .fields VmcsControlNW.CR0_GUEST_HOST_MASK (lit< tt)) (owned-cr0 p ok firstCr0);
+          cr4 = rw (u .fields VmcsGuestNW.CR4 (lit< tt), u .fields VmcsControlNW.CR4_GUEST_HOST_MASK (lit< tt)) (owned-cr4 p ok 0x2000);
         };
       };
     }
@@ -324,8 +313,8 @@ permits-since block a b msr s (c ∷ cs) w h n m =
           (let p = subst (λ (d : Call). WellTyped d → isRefused (sessionLogged s d .refusal) ≡ false → Kept (capabilitiesOf (msrsOf block)) (next s d) ×
           (next s d .progress .phase ≢ 0))
           (ap (λ (l : Fed). l .call) e) (λ u r. setup-kept s block a b msr u h r) (w .0) (sym (ap (λ (l : Fed). l .refused) e)) in
-          kept-after (capabilitiesOf (msrsOf block)) (next s c) cs (w .1) k (p .1) (rest-free s c cs n) (p .0))
-      | inr t ↦ permits-since block a b msr (next s c) cs (w .1) k (rest-free s c cs n) t
+          kept-after (capabilitiesOf (msrsOf block)) (next s c) cs (w .1) k (p .1) (λ x m. split-free s c cs n x m .1) (p .0))
+      | inr t ↦ permits-since block a b msr (next s c) cs (w .1) k (λ x m. split-free s c cs n x m .1) t
     ]
 
 -- ---- what is claimed

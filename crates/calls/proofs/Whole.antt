@@ -17,7 +17,8 @@ use Rattle.vcpu_events.specs.declared.Injection.the-variants.{Empty, Held, Writ
 use Rattle.calls.specs.Reference.{choose, Call, setup, queueEvent, injectInterrupt, entry, exitReport, apicValue, fieldWrite, registerWrite, WellTyped, AllWellTyped, Event, queuedBy, entriesBy, injectedBy, leftBy, heldBy, Reference, Guarded, isHeld, answerOn, Effect, effect, referenceStep, referenceAnswer, referenceAfter, referenceAnswers, Refuses, rules}
 use Rattle.blocks.specs.ReportBlock.{reportOf}
 use Rattle.calls.specs.Calls.{isRefused, Logged, fed, answers, queuedAt, queued, injectedAt, injected, entriesAt, entries, holds, writesField, written, waitingOf, viewOf, guardedOf}
-use Rattle.calls.proofs.Choices.{cond-all, choose-no, neither}
+use Rattle.vcpu_report.proofs.Steps.{neither}
+use Rattle.calls.proofs.Choices.{cond-all, choose-no}
 use Rattle.calls.proofs.Sessions.{next, sessionAfter, sessionLogged, sessionLog, Sound}
 use Rattle.calls.proofs.Fits.{sound-step}
 use Rattle.calls.proofs.Steps.{step}

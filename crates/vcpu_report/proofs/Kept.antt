@@ -10,7 +10,7 @@ use borrow.Author.Tests.{eqb-true, eqb-false, eq-eqb}
 use Rattle.bits.specs.Words.{bit, bitNot, Within}
 use Rattle.bits.proofs.WordLaws.{words, within-pow}
 use Rattle.definitions.specs.VmxExitReason as VmxExitReason
-use Rattle.vmcs.specs.Cr.{cr0Free, cr0Off, cr0Words, cr4Words, cr0Writes, cr4Writes}
+use Rattle.vmcs.specs.Cr.{cr0Free, cr0Off, crWords, cr0Words, cr4Words, cr0Writes, cr4Writes}
 use Rattle.vmcs.specs.Efer.{isLongMode, lacksIa32e, longModeEfer, longModeEntry, eferUpdate, updateEfer}
 use Rattle.vmcs.specs.Field.{valueOf}
 use Rattle.vmcs.specs.Flags.Cr0Flags as Cr0Flags
@@ -31,7 +31,7 @@ use Rattle.vcpu_exit.specs.declared.Report.{Report}
 use Rattle.vcpu_exit.proofs.Conds.{cond-all}
 use Rattle.vcpu_events.specs.Entry.{windowWord, windowSet}
 use Rattle.vcpu_report.specs.Handlers.{reportWrites, stored, timerSet, cr0Set, cr4Set, eferWrites, eferUpdated, handled, ripAdvanced, vmcsAfter, failureWrites, failureStored}
-use Rattle.vcpu_report.specs.Invariant.{Consistent, PermittedBy, SoundFields, Fits}
+use Rattle.vcpu_report.specs.Invariant.{Consistent, PermittedBy, Owned, SoundFields, Fits}
 use Rattle.vcpu_report.proofs.Steps.{by-move, by-reason, kept-by, kept-other}
 use Rattle.vcpu_report.proofs.Words.{aside-clear, agreed, moved-to}
 
@@ -125,17 +125,21 @@ module _ (c : Capabilities) (ok : Consistent c) where
   within-may4 : Within (c .cr4 .fixed1) (c .cr4 .fixed1)
   within-may4 = search words
 
+  -- what a move leaves in a control register and in its mask
+  pub owned-cr0 : (val : ℕ) → Owned may0 must0 (c .cr0 .fixed1) (crWords may0 must0 val .value) (crWords may0 must0 val .mask)
+  owned-cr0 val = moved-to may0 must0 (c .cr0 .fixed1) fits0 within-may0 within-must0 val
+
+  pub owned-cr4 : (val : ℕ) → Owned (c .cr4 .fixed1) (c .cr4 .fixed0) (c .cr4 .fixed1)
+      (crWords (c .cr4 .fixed1) (c .cr4 .fixed0) val .value) (crWords (c .cr4 .fixed1) (c .cr4 .fixed0) val .mask)
+  owned-cr4 val = moved-to (c .cr4 .fixed1) (c .cr4 .fixed0) (c .cr4 .fixed1) (ok .cr4Fits) within-may4 (ok .cr4) val
+
   kept-cr0 : (u : Vmcs) (val : ℕ) → SoundFields c u → SoundFields c (cr0Set u (c .cr0) val)
   unfolding cr0Set
-  kept-cr0 u val k =
-      kept-by c (cr0Writes (cr0Words (c .cr0 .fixed0) (c .cr0 .fixed1) val)) u (k .sized)
-      (search (moved-to may0 must0 (c .cr0 .fixed1) fits0 within-may0 within-must0 val))
+  kept-cr0 u val k = kept-by c (cr0Writes (cr0Words (c .cr0 .fixed0) (c .cr0 .fixed1) val)) u (k .sized) (search (owned-cr0 val))
 
   kept-cr4 : (u : Vmcs) (val : ℕ) → SoundFields c u → SoundFields c (cr4Set u (c .cr4) val)
   unfolding cr4Set
-  kept-cr4 u val k =
-      kept-by c (cr4Writes (cr4Words (c .cr4 .fixed0) (c .cr4 .fixed1) val)) u (k .sized)
-      (search (moved-to (c .cr4 .fixed1) (c .cr4 .fixed0) (c .cr4 .fixed1) (ok .cr4Fits) within-may4 (ok .cr4) (bitOr val 0x2000)))
+  kept-cr4 u val k = kept-by c (cr4Writes (cr4Words (c .cr4 .fixed0) (c .cr4 .fixed1) val)) u (k .sized) (search (owned-cr4 (bitOr val 0x2000)))
 
   -- 15 has passed: CR0 and CR4 agree with what was there under the masks
   kept-stored : (v : Vmcs) (r : Report) → Fits r → ownedBitsDiffer v r ≡ false → SoundFields c v → SoundFields c (stored v r)

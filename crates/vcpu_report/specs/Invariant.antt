@@ -42,9 +42,11 @@ pub record PermittedAside (k low high word : ℕ) : Type 0 where
 -- where only allowed-1 has it
 pub record AllPermitted (c : Capabilities) (v : Vmcs) : Type 0 where
   pub pin : PermittedBy (pairAt (c .pairs) 0) (valueOf v VmcsControl32.PINBASED_EXEC_CONTROLS)
-  pub primary : PermittedAside PrimaryControls.INTERRUPT_WINDOW_EXITING (pairAt (c .pairs) 1 .allowed0) (pairAt (c .pairs) 1 .allowed1) (valueOf v VmcsControl32.PRIMARY_PROCBASED_EXEC_CONTROLS)
+  pub primary : PermittedAside PrimaryControls.INTERRUPT_WINDOW_EXITING (pairAt (c .pairs) 1 .allowed0) (pairAt (c .pairs) 1 .allowed1)
+      (valueOf v VmcsControl32.PRIMARY_PROCBASED_EXEC_CONTROLS)
   pub window : T (bit PrimaryControls.INTERRUPT_WINDOW_EXITING (pairAt (c .pairs) 1 .allowed1))
-      → (T (bit PrimaryControls.INTERRUPT_WINDOW_EXITING (pairAt (c .pairs) 1 .allowed0)) → ⊥) → PermittedBy (pairAt (c .pairs) 1) (valueOf v VmcsControl32.PRIMARY_PROCBASED_EXEC_CONTROLS)
+      → (T (bit PrimaryControls.INTERRUPT_WINDOW_EXITING (pairAt (c .pairs) 1 .allowed0)) → ⊥)
+      → PermittedBy (pairAt (c .pairs) 1) (valueOf v VmcsControl32.PRIMARY_PROCBASED_EXEC_CONTROLS)
   pub secondary : PermittedBy (pairAt (c .pairs) 2) (valueOf v VmcsControl32.SECONDARY_PROCBASED_EXEC_CONTROLS)
   pub exit : PermittedBy (pairAt (c .pairs) 3) (valueOf v VmcsControl32.VMEXIT_CONTROLS)
   pub entry : PermittedBy (pairAt (c .pairs) 4) (valueOf v VmcsControl32.VMENTRY_CONTROLS)
@@ -62,11 +64,13 @@ pub record Owned (must0 must1 fixed1 value mask : ℕ) : Type 0 where
 -- the five words are permitted, primary bit 2 aside, and CR0 and CR4 and their masks are as `cr0Words` and `cr4Words` make them
 pub record SoundWords (c : Capabilities) (value : Field → ℕ) : Type 0 where
   pub pin : PermittedBy (pairAt (c .pairs) 0) (value VmcsControl32.PINBASED_EXEC_CONTROLS)
-  pub primary : PermittedAside PrimaryControls.INTERRUPT_WINDOW_EXITING (pairAt (c .pairs) 1 .allowed0) (pairAt (c .pairs) 1 .allowed1) (value VmcsControl32.PRIMARY_PROCBASED_EXEC_CONTROLS)
+  pub primary : PermittedAside PrimaryControls.INTERRUPT_WINDOW_EXITING (pairAt (c .pairs) 1 .allowed0) (pairAt (c .pairs) 1 .allowed1)
+      (value VmcsControl32.PRIMARY_PROCBASED_EXEC_CONTROLS)
   pub secondary : PermittedBy (pairAt (c .pairs) 2) (value VmcsControl32.SECONDARY_PROCBASED_EXEC_CONTROLS)
   pub exit : PermittedBy (pairAt (c .pairs) 3) (value VmcsControl32.VMEXIT_CONTROLS)
   pub entry : PermittedBy (pairAt (c .pairs) 4) (value VmcsControl32.VMENTRY_CONTROLS)
-  pub cr0 : Owned (bitAnd (c .cr0 .fixed1) (bitNot 64 cr0Off)) (bitAnd (c .cr0 .fixed0) (bitNot 64 cr0Free)) (c .cr0 .fixed1) (value VmcsGuestNW.CR0) (value VmcsControlNW.CR0_GUEST_HOST_MASK)
+  pub cr0 : Owned (bitAnd (c .cr0 .fixed1) (bitNot 64 cr0Off)) (bitAnd (c .cr0 .fixed0) (bitNot 64 cr0Free)) (c .cr0 .fixed1)
+      (value VmcsGuestNW.CR0) (value VmcsControlNW.CR0_GUEST_HOST_MASK)
   pub cr4 : Owned (c .cr4 .fixed1) (c .cr4 .fixed0) (c .cr4 .fixed1) (value VmcsGuestNW.CR4) (value VmcsControlNW.CR4_GUEST_HOST_MASK)
 
 pub record SoundFields (c : Capabilities) (v : Vmcs) : Type 0 where

@@ -33,7 +33,7 @@ put-same v g f x s h e = read-applied (g ≔ x ∷ []) v f s h ∙ rw e
 
 -- ---- what an entry does to the fields
 
--- what each write of an Other field keeps, an entry keeps
+-- what a write of any Other field keeps, an entry keeps, if the fields that it writes are Other
 module _ (P : Vmcs → Type 0) (Other : Field → Type 0) (kept : (v : Vmcs) (g : Field) (x : ℕ) → Other g → P v → P (put v g x)) where
   pub stack-keeps : (v : Vmcs) (launched : Bool) (stack : ℕ) → Other VmcsHostNW.RSP → P v → P (withStack v launched stack)
   unfolding withStack

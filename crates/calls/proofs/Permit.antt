@@ -155,7 +155,8 @@ module _ (c : Capabilities) where
       let laws = report-laws s r in
       let e = laws .rest .capabilities in
       with-fields s _ e
-      (rw (e ∙ k .capabilities) at (laws .sound (rw (k .capabilities) (k .consistent)) (record { cr0 = w .cr0; cr4 = w .cr4 }) (rw (k .capabilities) (k .fields)))) k
+      (rw (e ∙ k .capabilities) at
+      (laws .sound (rw (k .capabilities) (k .consistent)) (record { cr0 = w .cr0; cr4 = w .cr4 }) (rw (k .capabilities) (k .fields)))) k
 
   -- a call on a session that is set up
   step-kept : (s : Session) (d : Call) → WellTyped d → s .progress .phase ≢ 0

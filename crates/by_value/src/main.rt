@@ -1,6 +1,6 @@
 // Makes each call on a session twice: exported, on a record, and by value. Prints what each answers, and whether the record holds the session that the call by value
 // gives back.
-mod calls;
+mod both;
 mod processor;
 
 use libc::STDOUT_FILENO;
@@ -75,6 +75,6 @@ fn main() {
     let ready = set_up(&mut bytes, fresh);
     print_permitted(ready);
     let again = set_up(&mut bytes, ready);
-    let last = calls::run(&mut bytes, again);
+    let last = both::run(&mut bytes, again);
     print_permitted(last);
 }

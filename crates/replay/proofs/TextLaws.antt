@@ -3,12 +3,13 @@ use Prim.Native.Nat.{ℕ, suc, _+_, _*_, _%_, _^_, _≤_, _<_}
 use native.Mathlib.Numerals.{add-one}
 use native.Mathlib.Omega.{arith}
 use mathlib.Core.Path.{_≡_}
+use mathlib.Core.Bool.{Bool, true, false}
 use mathlib.Core.List.{List, [], _∷_}
 use borrow.Author.Tests.{lt-ltb, le-ltb, eq-eqb, ne-eqb}
 use lib.ListN.{length, getD, drop, drop-of-length-le}
 use lib.Seq.{drop-cons}
 use Rattle.replay.specs.declared.text.Number.{Number}
-use Rattle.replay.specs.Text.{digitValue, numberFrom, numberAt, afterByte, caseAt, lineEnd}
+use Rattle.replay.specs.Text.{digitValue, numberFrom, numberAt, afterByte, caseAt, lineEnd, startsWith}
 
 -- ---- a number: the whole spells what the rest spells after value
 
@@ -53,3 +54,23 @@ module _ (s : List ℕ) (i : ℕ) (inv : lineEnd s ≡ i + lineEnd (drop i s)) w
     pub line-more : (getD s i 0 ≡ 10 → ⊥) → lineEnd s ≡ i + 1 + lineEnd (drop (i + 1) s)
     unfolding lineEnd
     line-more e = rw (inv, add-one, drop-cons s i 0, ne-eqb (getD s i 0) 10) (omega arith)
+
+-- ---- the start of a text: what is left of both decides
+
+module _ (s start : List ℕ) (i : ℕ) (inv : startsWith start s ≡ startsWith (drop i start) (drop i s)) where
+  pub start-all : length start ≤ i → true ≡ startsWith start s
+  unfolding startsWith
+  start-all h = rw (inv, drop-of-length-le start)
+
+  module _ (h : i < length start) where
+    pub start-short : length s ≤ i → false ≡ startsWith start s
+    unfolding startsWith
+    start-short l = rw (inv, drop-cons start i 0, drop-of-length-le s)
+
+    pub start-other : i < length s → (getD s i 0 ≡ getD start i 0 → ⊥) → false ≡ startsWith start s
+    unfolding startsWith
+    start-other l e = rw (inv, drop-cons start i 0, drop-cons s i 0, ne-eqb (getD s i 0) (getD start i 0))
+
+    pub start-more : i < length s → getD s i 0 ≡ getD start i 0 → startsWith start s ≡ startsWith (drop (i + 1) start) (drop (i + 1) s)
+    unfolding startsWith
+    start-more l e = rw (inv, drop-cons start i 0, drop-cons s i 0, eq-eqb (getD s i 0) (getD start i 0), add-one)

@@ -1,7 +1,7 @@
--- The text of a list: a comment, and then a case to a line, small hexadecimal numbers parted by blanks. Assumes nothing.
+-- The text of lists: each is a comment, and then a case to a line, small hexadecimal numbers parted by blanks. Assumes nothing.
 use Prim.Native.Nat.{ℕ, suc, _+_, _*_, _/_, _%_, _^_, min, max}
 use Prim.Native.Char.{code}
-use mathlib.Core.Bool.{cond}
+use mathlib.Core.Bool.{Bool, true, false, cond}
 use mathlib.Core.List.{List, [], _∷_}
 use lib.Dec.{ltb, eqb}
 use lib.ListN.{length, drop}
@@ -47,3 +47,9 @@ caseAt text at =
 unfoldable pub lineEnd : List ℕ → ℕ
 lineEnd [] = 0
 lineEnd (b ∷ rest) = cond (eqb b (code "\n")) 1 (suc (lineEnd rest))
+
+-- whether a text starts with bytes, which come first
+unfoldable pub startsWith : List ℕ → List ℕ → Bool
+startsWith [] text = true
+startsWith (b ∷ start) [] = false
+startsWith (b ∷ start) (c ∷ text) = cond (eqb c b) (startsWith start text) false

@@ -1,17 +1,30 @@
-// What the replay programs share: the cases of a list read from its text, and the answers printed. The format is in oracle/README.md.
+// What the replay programs share: lists read from a text, and the answers printed. The format is in oracle/README.md.
 mod digest;
 mod text;
 
 pub use digest::digest_of;
 pub use text::Case;
 pub use text::case_at;
+pub use text::starts_with;
 ghost use mathlib.Core.Path.{_≡_};
+ghost use Prim.Native.Nat.{_≤_, min};
+ghost use lib.ListN.{length};
+ghost use Rattle.io.specs.Counts.{Counts};
 ghost use Rattle.replay.specs.Text.{lineEnd};
 use libc::STDOUT_FILENO;
+
+// 1,048,576 zeros: room for the lists that a program reads.
+pub fn buffer() -> [u8; 0x10_0000]
+    ensures { λ r. ⌜ 0x100000 ≡ length r ⌝ }
+{
+    [0; 0x10_0000]
+}
 
 // Copies the comment, a list's first line, and answers the place after it.
 pub fn print_comment(text: &[u8]) -> usize
     ensures { λ r. ⌜ r ≡ lineEnd (now (text .entry)) ⌝ }
+    ensures { λ r. ⌜ Counts r (now (text .entry)) ⌝ }
+    ensures { λ r. ⌜ min 1 (length (now (text .entry))) ≤ r ⌝ }
 {
     let end = text::line_end(text);
     io::write_all(STDOUT_FILENO, &text[..end]);

@@ -1,9 +1,9 @@
-// The text of a list: a comment, and then a case to a line, small hexadecimal numbers parted by blanks.
+// The text of lists: each is a comment, and then a case to a line, small hexadecimal numbers parted by blanks.
 ghost use mathlib.Core.Path.{_≡_};
 ghost use Prim.Native.Nat.{_+_, _≤_, min};
 ghost use lib.ListN.{length};
 ghost use Rattle.io.specs.Counts.{Counts};
-ghost use Rattle.replay.specs.Text.{digitValue, numberAt, afterByte, caseAt, lineEnd};
+ghost use Rattle.replay.specs.Text.{digitValue, numberAt, afterByte, caseAt, lineEnd, startsWith};
 
 // A number, and the place after it and its blank.
 struct Number {
@@ -92,6 +92,7 @@ pub fn case_at(text: &[u8], at: usize) -> Case
 pub fn line_end(text: &[u8]) -> usize
     ensures { λ r. ⌜ r ≡ lineEnd (now (text .entry)) ⌝ }
     ensures { λ r. ⌜ Counts r (now (text .entry)) ⌝ }
+    ensures { λ r. ⌜ min 1 (length (now (text .entry))) ≤ r ⌝ }
 {
     let mut i = 0;
     while i < text.len() {
@@ -101,4 +102,21 @@ pub fn line_end(text: &[u8]) -> usize
         i += 1;
     }
     i
+}
+
+// Whether a text starts with these bytes.
+pub fn starts_with(text: &[u8], start: &[u8]) -> bool
+    ensures { λ r. ⌜ r ≡ startsWith (now (start .entry)) (now (text .entry)) ⌝ }
+{
+    let mut i = 0;
+    while i < start.len() {
+        if text.len() <= i {
+            return false;
+        }
+        if text[i] != start[i] {
+            return false;
+        }
+        i += 1;
+    }
+    true
 }

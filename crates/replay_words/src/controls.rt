@@ -1,18 +1,6 @@
-// Control words, CR0 and CR4, EFER, and the EPT pointer.
-use vmcs::controls::ControlAnswer;
+// CR0 and CR4, EFER, and the EPT pointer.
 use vmcs::controls::CrWords;
 use vmcs::controls::Pair;
-
-pub fn set_control(n: [u64; 8]) {
-    let pair = Pair {
-        allowed0: bits::low(n[0]),
-        allowed1: bits::low(n[1]),
-    };
-    match vmcs::controls::set_control(pair, bits::low(n[2]), bits::low(n[3]), bits::low(n[4])) {
-        ControlAnswer::Word(word) => replay::print_numbers(&[word as u64]),
-        ControlAnswer::Refused(refusal) => replay::print_refused(refusal),
-    }
-}
 
 fn print_words(words: CrWords) {
     replay::print_numbers(&[words.value, words.shadow, words.mask]);

@@ -37,26 +37,3 @@ pub fn interrupt_exit_info(n: [u64; 8]) {
         ],
     );
 }
-
-// Whether a basic exit reason has a name. Reasons 65 to 69 have one and are refused by 14 in a report; the oracle's list has no case of them.
-fn is_named(reason: u32) -> bool {
-    let reasons = definitions::exit_reason::exit_reasons();
-    let mut i: usize = 0;
-    while i < 67 {
-        if reasons[i] == reason {
-            return true;
-        }
-        i += 1;
-    }
-    false
-}
-
-// Refusal 14: the reason has no name.
-pub fn exit_info(n: [u64; 8]) {
-    let info = vmcs::exit_info::exit_info(bits::low(n[0]));
-    if is_named(info.exit_reason) {
-        replay::print_numbers(&[info.entry_failure as u64, info.exit_reason as u64]);
-    } else {
-        replay::print_refused(14);
-    }
-}

@@ -6,13 +6,14 @@ use Rattle.replay_words.proofs.answer_all.Statement.{statement}
 use Rattle.replay_words.proofs.answer_all.Tie as tie
 
 abbrev Inv-loop : tie.InvT-loop
-Inv-loop list text at₀ at = Unit {0}
+Inv-loop text list₀ state₀ at₀ list state at = Unit {0}
 
 abbrev μ-loop : tie.MeasureT-loop
-μ-loop list text at₀ at = length text - at
+μ-loop text list₀ state₀ at₀ list state at = length text - at
 
 pub answer-all-spec : {M : Type 1} → statement M
 answer-all-spec =
     tie.close
-    (tie.spec Inv-loop μ-loop (λ c κs. search needs) (λ c. search needs) (λ c κs. search needs) (λ c κs. search needs) (λ c. search needs) (λ c. search needs)
-    (λ c. search needs))
+    (tie.spec Inv-loop μ-loop (λ c κs. search needs) (λ c. search needs) (λ c. search needs) (λ c. search needs) (λ c. search needs) (λ c. search needs) (λ c κs. search needs)
+    (λ c κs. search needs) (λ c κs. search needs) (λ c. search needs) (λ c. search needs) (λ c. search needs) (λ c κs. search needs) (λ c κs. search needs) (λ c. search needs)
+    (λ c. search needs) (λ c. search needs))

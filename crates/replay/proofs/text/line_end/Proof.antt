@@ -18,5 +18,5 @@ abbrev μ-loop : tie.MeasureT-loop
 pub line-end-spec : {M : Type 1} → statement M
 line-end-spec =
     tie.close
-    (tie.spec Inv-loop μ-loop (λ c. search needs) (λ c. search needs) (λ c. search needs) (λ c. (search (line-stop, needs), counts _ _ (search needs))) (λ c. search needs) (λ c. search needs)
-    (λ c. search (line-more, needs)) (λ c. (search (line-none, needs), counts _ _ (search needs))))
+    (tie.spec Inv-loop μ-loop (λ c. search needs) (λ c. search needs) (λ c. search needs) (λ c. (search (line-stop, needs), (counts _ _ (search needs), search needs))) (λ c. search needs) (λ c. search needs)
+    (λ c. search (line-more, needs)) (λ c. (search (line-none, needs), (counts _ _ (search needs), search needs))))

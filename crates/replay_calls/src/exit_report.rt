@@ -5,49 +5,46 @@ use record::Record;
 use record::words;
 use vcpu_session::Phase;
 
-// The registers stand at places 1 to 16.
-fn put_registers(block: &mut [u8; Layout::LENGTH], n: [u64; 46]) {
-    let mut i: usize = 0;
-    while i < 16 {
-        words::put8(block, Layout::REGS + 8 * i, n[i + 1]);
-        i += 1;
-    }
-}
-
-fn put_guest(block: &mut [u8; Layout::LENGTH], n: [u64; 46]) {
-    words::put8(block, Layout::RIP, n[17]);
-    words::put8(block, Layout::RSP, n[18]);
-    words::put8(block, Layout::RFLAGS, n[19]);
-    words::put4(block, Layout::INTERRUPTIBILITY, bits::low(n[20]));
-    words::put8(block, Layout::CR0, n[21]);
-    words::put8(block, Layout::CR3, n[22]);
-    words::put8(block, Layout::CR4, n[23]);
-    words::put8(block, Layout::EFER, n[24]);
-    words::put8(block, Layout::CS_BASE, n[25]);
-    words::put4(block, Layout::CS_RIGHTS, bits::low(n[26]));
-    words::put4(block, Layout::SS_RIGHTS, bits::low(n[27]));
-}
-
-fn put_exit(block: &mut [u8; Layout::LENGTH], n: [u64; 46]) {
-    words::put4(block, Layout::REASON, bits::low(n[28]));
-    words::put8(block, Layout::QUALIFICATION, n[29]);
-    words::put4(block, Layout::INSTRUCTION_LENGTH, bits::low(n[30]));
-    words::put4(block, Layout::INTERRUPTION, bits::low(n[31]));
-    words::put4(block, Layout::ERROR_CODE, bits::low(n[32]));
-    words::put4(block, Layout::CPUID_EAX, bits::low(n[33]));
-    words::put4(block, Layout::CPUID_EBX, bits::low(n[34]));
-    words::put4(block, Layout::CPUID_ECX, bits::low(n[35]));
-    words::put4(block, Layout::CPUID_EDX, bits::low(n[36]));
-}
-
-// The numbers of the report stand at places 1 to 36, in the order of the block.
-fn block_of(n: [u64; 46]) -> [u8; Layout::LENGTH] {
-    let mut block = [0u8; Layout::LENGTH];
-    put_registers(&mut block, n);
-    put_guest(&mut block, n);
-    put_exit(&mut block, n);
-    block
-}
+// Where the numbers of the block start, and where it ends. They stand at places 1 to 36.
+const OFFSETS: [usize; 37] = [
+    Layout::REGS,
+    Layout::REGS + 8,
+    Layout::REGS + 16,
+    Layout::REGS + 24,
+    Layout::REGS + 32,
+    Layout::REGS + 40,
+    Layout::REGS + 48,
+    Layout::REGS + 56,
+    Layout::REGS + 64,
+    Layout::REGS + 72,
+    Layout::REGS + 80,
+    Layout::REGS + 88,
+    Layout::REGS + 96,
+    Layout::REGS + 104,
+    Layout::REGS + 112,
+    Layout::REGS + 120,
+    Layout::RIP,
+    Layout::RSP,
+    Layout::RFLAGS,
+    Layout::INTERRUPTIBILITY,
+    Layout::CR0,
+    Layout::CR3,
+    Layout::CR4,
+    Layout::EFER,
+    Layout::CS_BASE,
+    Layout::CS_RIGHTS,
+    Layout::SS_RIGHTS,
+    Layout::REASON,
+    Layout::QUALIFICATION,
+    Layout::INSTRUCTION_LENGTH,
+    Layout::INTERRUPTION,
+    Layout::ERROR_CODE,
+    Layout::CPUID_EAX,
+    Layout::CPUID_EBX,
+    Layout::CPUID_ECX,
+    Layout::CPUID_EDX,
+    Layout::LENGTH,
+];
 
 // The words kept from setup stand at places 37 to 45, in the order of the record: five pairs, allowed-1 in the high half, and four words of fixed bits.
 fn put_kept(bytes: &mut [u8; Record::LENGTH], n: [u64; 46]) {
@@ -72,7 +69,8 @@ fn change(bytes: &mut [u8; Record::LENGTH], numbers: &mut [u64; 46], place: u64,
 fn answer(bytes: &mut [u8; Record::LENGTH], n: [u64; 46]) {
     put_kept(bytes, n);
     words::put1(bytes, Record::PHASE, Phase::RUNNING);
-    let block = block_of(n);
+    let mut block = [0u8; Layout::LENGTH];
+    crate::block::put_all(&mut block, &OFFSETS, n);
     let mut w = [0u64; 8];
     let refusal = x86_vcpu::report::vcpu_exit_report(bytes, &block, &mut w);
     if refusal == 0 {

@@ -1,5 +1,6 @@
 // Replays lists of the oracle by the exported functions, on records, blocks and frames as a host holds them. Reads the lists from standard input, and prints the
 // core's answers.
+mod block;
 mod exit_report;
 mod fields;
 mod inject_event;

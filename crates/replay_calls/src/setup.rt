@@ -1,7 +1,6 @@
 // Setup: each case changes numbers of setup's arguments and sets up a new session. The five control words, a digest of the record and the sum of the frames'
 // digests are printed.
 use blocks::setup::Layout;
-use record::words;
 
 const PINBASED_EXEC_CONTROLS: u64 = 0x4000;
 
@@ -13,71 +12,54 @@ const VMENTRY_CONTROLS: u64 = 0x4012;
 
 const SECONDARY_PROCBASED_EXEC_CONTROLS: u64 = 0x401E;
 
-fn narrow(x: u64) -> u16 {
-    (x % 0x1_0000) as u16
-}
-
 fn byte(x: u64) -> u8 {
     (x % 0x100) as u8
 }
 
-// The numbers stand at places 1 to 40, in the order of the block.
-fn put_host(block: &mut [u8; Layout::LENGTH], n: [u64; 46]) {
-    words::put8(block, Layout::HOST_PAT, n[1]);
-    words::put8(block, Layout::HOST_EFER, n[2]);
-    words::put8(block, Layout::HOST_CR0, n[3]);
-    words::put8(block, Layout::HOST_CR3, n[4]);
-    words::put8(block, Layout::HOST_CR4, n[5]);
-    words::put2(block, Layout::HOST_ES, narrow(n[6]));
-    words::put2(block, Layout::HOST_CS, narrow(n[7]));
-    words::put2(block, Layout::HOST_SS, narrow(n[8]));
-    words::put2(block, Layout::HOST_DS, narrow(n[9]));
-    words::put2(block, Layout::HOST_FS, narrow(n[10]));
-    words::put2(block, Layout::HOST_GS, narrow(n[11]));
-    words::put8(block, Layout::HOST_FS_BASE, n[12]);
-    words::put8(block, Layout::HOST_GS_BASE, n[13]);
-    words::put2(block, Layout::HOST_TR, narrow(n[14]));
-    words::put8(block, Layout::HOST_TR_BASE, n[15]);
-    words::put8(block, Layout::HOST_GDTR_BASE, n[16]);
-    words::put8(block, Layout::HOST_IDTR_BASE, n[17]);
-    words::put8(block, Layout::HOST_RIP, n[18]);
-}
-
-fn put_guest(block: &mut [u8; Layout::LENGTH], n: [u64; 46]) {
-    words::put8(block, Layout::ENTRY, n[19]);
-    words::put8(block, Layout::GUEST_PAT, n[20]);
-    words::put8(block, Layout::EPT_ROOT, n[21]);
-    words::put8(block, Layout::IO_BITMAP_A, n[22]);
-    words::put8(block, Layout::IO_BITMAP_B, n[23]);
-    words::put8(block, Layout::MSR_BITMAPS, n[24]);
-}
-
-fn put_capabilities(block: &mut [u8; Layout::LENGTH], n: [u64; 46]) {
-    words::put8(block, Layout::PINBASED_CTLS, n[25]);
-    words::put8(block, Layout::PROCBASED_CTLS, n[26]);
-    words::put8(block, Layout::EXIT_CTLS, n[27]);
-    words::put8(block, Layout::ENTRY_CTLS, n[28]);
-    words::put8(block, Layout::CR0_FIXED0, n[29]);
-    words::put8(block, Layout::CR0_FIXED1, n[30]);
-    words::put8(block, Layout::CR4_FIXED0, n[31]);
-    words::put8(block, Layout::CR4_FIXED1, n[32]);
-    words::put8(block, Layout::PROCBASED_CTLS2, n[33]);
-    words::put8(block, Layout::TRUE_PINBASED_CTLS, n[34]);
-    words::put8(block, Layout::TRUE_PROCBASED_CTLS, n[35]);
-    words::put8(block, Layout::TRUE_EXIT_CTLS, n[36]);
-    words::put8(block, Layout::TRUE_ENTRY_CTLS, n[37]);
-    words::put1(block, Layout::RDTSCP, byte(n[38]));
-    words::put1(block, Layout::INVPCID, byte(n[39]));
-    words::put1(block, Layout::XSAVES, byte(n[40]));
-}
-
-fn block_of(n: [u64; 46]) -> [u8; Layout::LENGTH] {
-    let mut block = [0u8; Layout::LENGTH];
-    put_host(&mut block, n);
-    put_guest(&mut block, n);
-    put_capabilities(&mut block, n);
-    block
-}
+// Where the numbers of the block start, and where it ends. They stand at places 1 to 40 of a case's numbers.
+const OFFSETS: [usize; 41] = [
+    Layout::HOST_PAT,
+    Layout::HOST_EFER,
+    Layout::HOST_CR0,
+    Layout::HOST_CR3,
+    Layout::HOST_CR4,
+    Layout::HOST_ES,
+    Layout::HOST_CS,
+    Layout::HOST_SS,
+    Layout::HOST_DS,
+    Layout::HOST_FS,
+    Layout::HOST_GS,
+    Layout::HOST_FS_BASE,
+    Layout::HOST_GS_BASE,
+    Layout::HOST_TR,
+    Layout::HOST_TR_BASE,
+    Layout::HOST_GDTR_BASE,
+    Layout::HOST_IDTR_BASE,
+    Layout::HOST_RIP,
+    Layout::ENTRY,
+    Layout::GUEST_PAT,
+    Layout::EPT_ROOT,
+    Layout::IO_BITMAP_A,
+    Layout::IO_BITMAP_B,
+    Layout::MSR_BITMAPS,
+    Layout::PINBASED_CTLS,
+    Layout::PROCBASED_CTLS,
+    Layout::EXIT_CTLS,
+    Layout::ENTRY_CTLS,
+    Layout::CR0_FIXED0,
+    Layout::CR0_FIXED1,
+    Layout::CR4_FIXED0,
+    Layout::CR4_FIXED1,
+    Layout::PROCBASED_CTLS2,
+    Layout::TRUE_PINBASED_CTLS,
+    Layout::TRUE_PROCBASED_CTLS,
+    Layout::TRUE_EXIT_CTLS,
+    Layout::TRUE_ENTRY_CTLS,
+    Layout::RDTSCP,
+    Layout::INVPCID,
+    Layout::XSAVES,
+    Layout::LENGTH,
+];
 
 // Changes one number: place 41 is the byte that fills the frames, and a case's unused places are 0.
 fn change(numbers: &mut [u64; 46], place: u64, value: u64) {
@@ -101,7 +83,8 @@ fn answer(n: [u64; 46]) {
     let mut a = [fill; 4096];
     let mut b = [fill; 4096];
     let mut msr = [fill; 4096];
-    let block = block_of(n);
+    let mut block = [0u8; Layout::LENGTH];
+    crate::block::put_all(&mut block, &OFFSETS, n);
     let refusal = x86_vcpu::setup::vcpu_setup(&mut bytes, &block, &mut a, &mut b, &mut msr);
     if refusal != 0 {
         replay::print_refused(refusal);

@@ -4,7 +4,7 @@
 usage: oracle/mutants.py [--cases N] [--only TEXT]
 
 The crates are turned to Rust by tools/strip.py. A mutation is a text, found wherever in the library crates it stands, and what takes its place. A mutant
-is run by every program that replays a list of the original's answers and depends on the changed crate, and by the differential run where the exported
+is run by every program that replays lists of the original's answers and depends on the changed crate, and by the differential run where the exported
 functions depend on it.
 
 It prints a table in Markdown. Exit status: 0 if every mutant is noticed or its survival is explained in mutations.py, and every
@@ -16,6 +16,7 @@ import argparse
 import os
 import subprocess
 import sys
+from itertools import zip_longest
 from pathlib import Path
 
 HERE = Path(__file__).resolve().parent
@@ -64,22 +65,34 @@ def dependants(crates, name):
 
 
 class Replay:
-    """A program of the repository that replays a list."""
+    """A program of the repository that replays lists. Where it notices a mutant, `said` names the list too."""
 
     def __init__(self, name, folder):
-        self.name = name
+        self.name = self.said = name
         self.input, self.expected = (folder / "stdin").read_bytes(), (folder / "stdout").read_bytes()
 
     def notices(self):
         try:
             done = run([str(WORK / "target/debug" / self.name)], input=self.input)
         except subprocess.TimeoutExpired:
+            self.said = self.name
             return True
+        self.said = f"{self.name}: {self.first_differing_list(done.stdout)}"
         return done.returncode != 0 or done.stdout != self.expected
+
+    def first_differing_list(self, output):
+        """The list, named by its comment, whose answers are the first that differ."""
+        name = ""
+        for expected, line in zip_longest(self.expected.split(b"\n"), output.split(b"\n")):
+            if expected is not None and LIST_MARK in expected:
+                name = expected[2:].split(b",")[0].decode()
+            if expected != line:
+                break
+        return name
 
 
 def replays(crates):
-    """The programs whose input is a list."""
+    """The programs whose input is lists."""
     found = {}
     for name in crates:
         folder = REPOSITORY / "crates" / name
@@ -89,7 +102,7 @@ def replays(crates):
 
 
 class Differential:
-    name = "differential"
+    name = said = "differential"
 
     def __init__(self, program, cases):
         self.command = [str(program), str(cases)]
@@ -174,8 +187,8 @@ def try_mutation(found, mutation, crates, checks):
         for check in running:
             if check.notices():
                 if mutation.survives:
-                    return "wrong", f"{check.name}, BUT IT WAS SAID TO SURVIVE"
-                return "noticed", check.name
+                    return "wrong", f"{check.said}, BUT IT WAS SAID TO SURVIVE"
+                return "noticed", check.said
         if mutation.survives:
             return "explained", f"none: {mutation.survives}"
         return "wrong", f"SURVIVES {len(running)} runs"

@@ -1,11 +1,11 @@
 #!/usr/bin/env python3
 """What casesheet prints, typed from document 01's words and from nothing else.
 
-The expected output of the crates casesheet and casesheet_* comes from this script and not from the program. The script shares
+The expected output of the crates casesheet and casesheet_runs comes from this script and not from the program. The script shares
 nothing with the Rattle code and its definitions: it splits the input at line feeds, and matches a line by a regular expression.
 
 Usage: tools/casesheet_reading.py             reads standard input and prints the sheet
-       tools/casesheet_reading.py --make      writes stdin and stdout of these crates (in the repository's root)
+       tools/casesheet_reading.py --make      writes the inputs and the stdout of these crates (in the repository's root), but for data/list, which oracle/lists makes
        tools/casesheet_reading.py --check     exit status 1 where one of these files differs from what would be written
 """
 import hashlib
@@ -182,19 +182,24 @@ def longest():
     return data + b"\n" * (65536 - len(data))
 
 
+RUNS = "crates/casesheet_runs"
+
+
 def files():
     assert sheet(EXAMPLE) == EXAMPLE_PRINTED
+    yield "crates/casesheet/stdin", EXAMPLE
+    yield "crates/casesheet/stdout", EXAMPLE_PRINTED
     inputs = {
-        "casesheet": EXAMPLE,
-        "casesheet_edges": b"\n".join(EDGES),
-        "casesheet_empty": b"",
-        "casesheet_full": longest(),
-        "casesheet_long": longest() + b"\n",
+        "edges": b"\n".join(EDGES),
+        "empty": b"",
+        "full": longest(),
+        "long": longest() + b"\n",
     }
-    for crate, data in inputs.items():
-        yield "crates/%s/stdin" % crate, data
-        if sheet(data):
-            yield "crates/%s/stdout" % crate, sheet(data)
+    for name, data in inputs.items():
+        yield "%s/data/%s" % (RUNS, name), data
+    with open(RUNS + "/data/list", "rb") as made:
+        inputs["list"] = made.read()
+    yield RUNS + "/stdout", b"".join(name.encode() + b"\n" + sheet(data) for name, data in inputs.items())
 
 
 def main():

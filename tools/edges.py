@@ -1,52 +1,312 @@
 #!/usr/bin/env python3
-"""What the program `edges` must print: usage tools/edges.py > crates/edges/stdout. The answers are document 01's, written out here call by call."""
-PORTS = [
-    # base 65,535 count 1 passes: the last bit of B
-    (0, 0, 128),
-    # count 2 is 10
-    (10, 0, 0),
-    # P6: port 0x604 is bit 4 of byte 192 of A
-    (0, 16, 0),
-    # count 0 passes for any base and changes nothing
-    (0, 0, 0),
+"""What the program `edges` must print: usage tools/edges.py > crates/edges/stdout.
+
+Each line is a call of an exported function, its arguments, and the answer that document 01 gives: the edges of "Worked by hand", and each number of "The operations and
+their numbers" at its boundary, the last call that is accepted and the first that is refused. The answers are written out here, call by call; nothing of the port is read.
+"""
+
+M64 = 2**64 - 1
+
+
+class Refused(int):
+    """A refusal, as against a value."""
+
+
+def edge(name, *rest):
+    """A line: the arguments, and last the answer, which is a refusal, a list of values, or None for a call that leaves nothing to print."""
+    *arguments, answer = rest
+    if isinstance(answer, Refused):
+        said = "refused %d" % answer
+    elif answer is None:
+        said = "accepted"
+    else:
+        said = " ".join("%x" % value for value in answer)
+    print(name + "".join(" %x" % n for n in arguments) + ": " + said)
+
+
+def ports():
+    """Byte 192 of A and byte 4,095 of B. P6: port 0x604 is bit 4 of byte 192 of A."""
+    name = "set_io_intercept_of_range"
+    edge(name, 0x604, 1, 1, [0x10, 0])
+    edge(name, 0x604, 1, 2, Refused(2))
+    # port 65,535 and count 1 pass, count 2 is 10
+    edge(name, 65535, 1, 1, [0, 0x80])
+    edge(name, 65535, 2, 1, Refused(10))
+    # count 0 passes for any port and changes nothing
+    edge(name, 65536, 0, 1, [0, 0])
+    edge(name, 65536, 1, 1, Refused(10))
+    edge(name, 0, 65536, 1, [0xFF, 0xFF])
+    edge(name, 0, 65537, 1, Refused(10))
+    edge(name, 2**32 - 1, 0, 1, [0, 0])
     # the last port does not wrap
-    (10, 0, 0),
-]
-for refusal, in_a, in_b in PORTS:
-    print("ports", refusal)
-    print("byte 192 of A", in_a)
-    print("byte 4095 of B", in_b)
-print("port", 0)
-print("port", 10)
-print("short frame", 2)
-# MSR 0x1FFF passes, 0x2000 is 11; P7: a write of 0xC0000080 is bit 0 of byte 3,088
-for refusal, byte in [(0, 0), (11, 0), (11, 0), (0, 1), (0, 0), (11, 0)]:
-    print("msr", refusal)
-    print("byte 3088", byte)
-# index 4 and those above 15 are 23, judged whole; a new session's registers are 0
-for n in [0, 23, 0, 23, 23]:
-    print("register", n)
-# the last field of the table, one past it, VmcsControl16, a high half, an encoding judged whole
-for n in [0, 3, 3, 3, 3]:
-    print("field", n)
-# read-only before too wide; 32 bits; 16 bits; natural
-for n in [4, 5, 0, 5, 0, 0]:
-    print("write", n)
-# P1, P2, a set bit outside allowed-1, P3
-for n in [0x1F, 7, 8, 9]:
-    print("control", n)
-# the 64th event passes, the 65th is 13
-for n in [0, 13]:
-    print("event", n)
-# with IF clear, vector 31 goes in (2, written) and 32 is held (1)
-for n in [2, 1]:
-    print("entry", n)
-# the last entry that the count takes, and the count at its end
-for n in [0, 22]:
-    print("count", n)
-# reason 64 passes, 65, 35, 38 and 42 are 14; a failed entry of 33, 34 or 41 passes, of another reason is 14; bits 16 to 30 don't count
-for n in [0, 14, 14, 14, 14, 0, 0, 0, 14, 0]:
-    print("report", n)
-# CPUID advances RIP by 2: to 2^64 - 1, and past it
-for n in [0, 17]:
-    print("report", n)
+    edge(name, 1, 2**32 - 1, 1, Refused(10))
+
+
+def msrs():
+    """Bytes 1,040 and 3,088. P7: the write of MSR 0xC0000080 is bit 0 of byte 3,088; its read is in the quarter "read high"."""
+    names = ["set_read_intercept", "set_write_intercept", "set_msr_intercept_of_range"]
+    here = [[1, 0], [0, 1], [1, 1]]
+    for msr, passes in [
+        (0, True),
+        (0x1FFF, True),
+        (0x2000, False),
+        (0xBFFFFFFF, False),
+        (0xC0000000, True),
+        (0xC0000080, True),
+        (0xC0001FFF, True),
+        (0xC0002000, False),
+    ]:
+        for name, bits in zip(names, here):
+            edge(name, msr, 1, (bits if msr == 0xC0000080 else [0, 0]) if passes else Refused(11))
+    for name in names:
+        edge(name, 0xC0000080, 2, Refused(2))
+
+
+def registers():
+    """Index 4 and those above 15 are refused, judged whole; a new session's registers are 0."""
+    for index, allowed in [(0, 1), (3, 1), (4, 0), (5, 1), (15, 1), (16, 0), (256, 0), (2**32, 0)]:
+        edge("get_reg_of_index", index, [0] if allowed else Refused(23))
+        edge("set_reg_of_index", index, M64, [M64] if allowed else Refused(23))
+
+
+def fields():
+    # VmcsControl16 is not in the table; before its first encoding, the first, a high half; the last, past it; an encoding judged whole
+    for encoding, listed in [(0, 0), (0x7FE, 0), (0x800, 1), (0x801, 0), (0x6C16, 1), (0x6C18, 0), (0x100000800, 0)]:
+        edge("read_field", encoding, [0] if listed else Refused(3))
+    edge("write_field", 0x6C18, 0, Refused(3))
+    # read-only, before too wide
+    edge("write_field", 0x2400, 0, Refused(4))
+    edge("write_field", 0x4402, M64, Refused(4))
+    edge("write_field", 0x6400, 0, Refused(4))
+    # 16 bits, 32, 64, natural
+    edge("write_field", 0x800, 0xFFFF, [0xFFFF])
+    edge("write_field", 0x800, 0x10000, Refused(5))
+    edge("write_field", 0x4016, 0xFFFFFFFF, [0xFFFFFFFF])
+    edge("write_field", 0x4016, 0x100000000, Refused(5))
+    edge("write_field", 0x2000, M64, [M64])
+    edge("write_field", 0x6800, M64, [M64])
+
+
+def controls():
+    name = "set_control"
+    edge(name, 0x16, 0x7F, 0x16, 9, 0, [0x1F])  # P1
+    edge(name, 0x7F, 0x7F, 0, 0, 0, [0x7F])
+    edge(name, 0x80, 0x7F, 0, 1, 1, Refused(6))  # before 7
+    edge(name, 0x16, 0x7F, 0x16, 1, 8, [0x17])
+    edge(name, 0x16, 0x7F, 0x16, 1, 1, Refused(7))  # P2
+    edge(name, 0x16, 0x7F, 0x16, 0x80, 0x80, Refused(7))  # before 8
+    edge(name, 0x16, 0x7F, 0x16, 0x40, 0, [0x56])
+    edge(name, 0x16, 0x7F, 0x16, 0x80, 0, Refused(8))
+    edge(name, 0x16, 0x7F, 0x16, 0x80, 2, Refused(8))  # before 9
+    edge(name, 0x16, 0x7F, 0x7F, 0, 0x69, [0x16])
+    edge(name, 0x16, 0x7F, 0x16, 0, 2, Refused(9))  # P3
+
+
+def lengths():
+    """2: a lent length is wrong. A record has 1,469 bytes, a frame 4,096."""
+    edge("new, record of", 1468, Refused(2))
+    edge("new, record of", 1469, None)
+    edge("new, record of", 1470, Refused(2))
+    for length in [4095, 4097]:
+        for name in ["new, A of", "new, B of", "new, MSR of"]:
+            edge(name, length, Refused(2))
+        edge("set_io_intercept_of_range, A of", length, Refused(2))
+        edge("set_io_intercept_of_range, B of", length, Refused(2))
+        edge("set_write_intercept, MSR of", length, Refused(2))
+
+
+def records():
+    """2: a phase byte above 4, a yes/no byte other than 0 or 1, more than 64 events, more held entries than entries."""
+    for phase, launched, waiting, entries, held, accepted in [
+        (0, 0, 0, 0, 0, True),
+        (4, 0, 0, 0, 0, True),
+        (5, 0, 0, 0, 0, False),
+        (0, 1, 0, 0, 0, True),
+        (0, 2, 0, 0, 0, False),
+        (0, 0, 64, 0, 0, True),
+        (0, 0, 65, 0, 0, False),
+        (0, 0, 0, 7, 7, True),
+        (0, 0, 0, 7, 8, False),
+        (0, 0, 0, 2**32 - 1, 2**32 - 1, True),
+    ]:
+        numbers = [phase, launched, waiting, entries, held]
+        edge("get_counts", *numbers, numbers if accepted else Refused(2))
+
+
+def queues():
+    """A phase, how many wait, the event: how many wait after it."""
+    edge("queue_event", 0, 0, 0, 0, [1])
+    edge("queue_event", 0, 0, 255, 1, [1])
+    edge("queue_event", 0, 0, 255, 2, Refused(2))
+    edge("queue_event", 3, 0, 32, 0, [1])
+    edge("queue_event", 4, 0, 32, 0, Refused(1))  # ended
+    edge("queue_event", 0, 63, 32, 0, [64])  # the 64th event passes
+    edge("queue_event", 0, 64, 32, 0, Refused(13))  # the 65th is 13
+    edge("queue_event", 4, 64, 32, 0, Refused(1))  # before 13
+    edge("inject_interrupt", 0, 0, 0, Refused(12))
+    edge("inject_interrupt", 0, 0, 1, [1])
+    edge("inject_interrupt", 0, 0, 255, [1])
+    edge("inject_interrupt", 0, 0, 256, Refused(12))
+    edge("inject_interrupt", 0, 0, 0x100000001, Refused(12))
+    edge("inject_interrupt", 3, 0, 32, [1])
+    edge("inject_interrupt", 4, 0, 0, Refused(1))  # before 12
+    edge("inject_interrupt", 0, 63, 32, [64])
+    edge("inject_interrupt", 0, 64, 32, Refused(13))
+    edge("inject_interrupt", 0, 64, 0, Refused(12))  # before 13
+
+
+LAUNCH, RESUME = 0, 1
+NONE, HELD, WRITTEN = 0, 1, 2
+
+
+def entries():
+    """A phase, the entries before, the vector that waits, RFLAGS, interruptibility: launch or resume, what was done with the event, entries, held ones."""
+    edge("entry, none waiting", 0, [LAUNCH, NONE, 1, 0])
+    edge("entry, none waiting", 1, [RESUME, NONE, 1, 0])
+    for phase in range(5):
+        edge("entry", phase, 0, 31, 0, 0, [LAUNCH, WRITTEN, 1, 0] if phase == 1 else Refused(1))  # ready alone
+    # with IF clear, vector 31 goes in (above) and 32 is held
+    edge("entry", 1, 0, 32, 0, 0, [LAUNCH, HELD, 1, 1])
+    edge("entry", 1, 0, 32, 0x200, 0, [LAUNCH, WRITTEN, 1, 0])
+    edge("entry", 1, 0, 32, M64 - 0x200, 0, [LAUNCH, HELD, 1, 1])
+    # interruptibility not 0
+    edge("entry", 1, 0, 32, 0x200, 1, [LAUNCH, HELD, 1, 1])
+    edge("entry", 1, 0, 31, 0x200, 1, [LAUNCH, WRITTEN, 1, 0])
+    # the entry count is 2^32 - 1
+    edge("entry", 1, 2**32 - 2, 31, 0, 0, [LAUNCH, WRITTEN, 2**32 - 1, 0])
+    edge("entry", 1, 2**32 - 1, 31, 0, 0, Refused(22))
+    edge("entry", 0, 2**32 - 1, 31, 0, 0, Refused(1))
+
+
+def apic_values():
+    """Waiting alone; then ready, with the low half in RAX and the high half in RDX."""
+    value = 0x1122334455667788
+    edge("apic_value", 2, value, Refused(1))
+    edge("apic_value", 3, value, [1, 0x55667788, 0x11223344])
+    edge("apic_value", 4, value, Refused(1))
+
+
+# Offsets of capability words in setup's block, and of its yes/no bytes.
+CR0_FIXED1, CR4_FIXED1, SECONDARY, PIN, PRIMARY, EXIT, ENTRY, FLAGS = 190, 206, 214, 222, 230, 238, 246, (254, 255, 256)
+READY = [1]
+
+
+def setups():
+    """A phase, and two words of the block by their offsets. Allowed-1 is the high half of a pair."""
+    # pin sets 0x9
+    words = [(PIN, 0x0000001F_00000016, READY), (PIN, 0x0000001F_00000036, Refused(6)), (PIN, 0x0000001E_00000016, Refused(8))]
+    # primary sets 0x92000000 and clears 0x198000
+    words += [(PRIMARY, 0x96016172_04006172, READY), (PRIMARY, 0x92016172_04006172, Refused(6))]
+    words += [(PRIMARY, 0x86016172_04006172, Refused(8)), (PRIMARY, 0xFFF9FFFE_0400E172, Refused(9))]
+    # secondary sets 0x82
+    words += [(SECONDARY, 0x00000082_00000082, READY), (SECONDARY, 0x00000082_00000083, Refused(6)), (SECONDARY, 0x00000080_00000000, Refused(8))]
+    # exit sets 0x3C8200
+    words += [(EXIT, 0x003FEFFB_00036DFB, READY), (EXIT, 0x003FEFF9_00036DFB, Refused(6)), (EXIT, 0x003BEFFB_00036DFB, Refused(8))]
+    # entry sets 0xC000
+    words += [(ENTRY, 0x0000D1FB_000011FB, READY), (ENTRY, 0x0000C1FB_000011FB, Refused(6)), (ENTRY, 0x000091FB_000011FB, Refused(8))]
+    # fixed-0 is 0x80000021 of CR0 and 0x2000 of CR4
+    words += [(CR0_FIXED1, 0x80000021, READY), (CR0_FIXED1, 0x80000020, Refused(6))]
+    words += [(CR4_FIXED1, 0x2000, READY), (CR4_FIXED1, 0x1FFF, Refused(6))]
+    for offset, value, answer in words:
+        edge("setup", 0, offset, value, offset, value, answer)
+    edge("setup", 1, CR4_FIXED1, 0x2000, CR4_FIXED1, 0x2000, Refused(1))
+    edge("setup", 4, CR4_FIXED1, 0, CR4_FIXED1, 0, Refused(1))  # before 6
+    edge("setup", 0, PIN, 0x0000001E_00000016, CR4_FIXED1, 0, Refused(6))  # of any word, before 8
+    edge("setup", 0, PIN, 0x0000001E_00000016, PRIMARY, 0xFFF9FFFE_0400E172, Refused(8))  # pin before primary
+    edge("setup", 0, PRIMARY, 0xFFF9FFFE_0400E172, SECONDARY, 0, Refused(9))  # primary before secondary
+    for offset in FLAGS:
+        edge("setup, yes/no byte", offset, 1, READY)
+        edge("setup, yes/no byte", offset, 2, Refused(2))
+
+
+WAITING, ENDED = [3], [4]
+
+
+def reports():
+    """A phase and a full reason: the phase after an accepted report."""
+    name = "exit_report"
+    edge(name, 1, 10, Refused(1))
+    edge(name, 2, 10, READY)
+    edge(name, 3, 10, Refused(1))
+    edge(name, 1, 65, Refused(1))  # before 14
+    # above 64 or 35, 38 or 42: 14
+    for reason in [34, 35, 36, 37, 38, 39, 41, 42, 43, 64, 65, 0xFFFF]:
+        edge(name, 2, reason, Refused(14) if reason > 64 or reason in (35, 38, 42) else READY)
+    # the reason is bits 0 to 15
+    edge(name, 2, 0x7FFF0040, READY)
+    # bit 31: a failed entry of 33, 34 or 41 ends the session, any other is 14
+    for reason in [32, 33, 34, 35, 40, 41, 42]:
+        edge(name, 2, 0x80000000 + reason, ENDED if reason in (33, 34, 41) else Refused(14))
+    edge(name, 2, 44, Refused(21))
+    # 16: reason 1 with valid clear or type 1
+    edge("exit_report, interruption", 1, 0x80000020, READY)
+    edge("exit_report, interruption", 1, 0x00000020, Refused(16))
+    edge("exit_report, interruption", 1, 0x80000120, Refused(16))
+    edge("exit_report, interruption", 1, 0x80000220, READY)
+    edge("exit_report, interruption", 10, 0, READY)
+    name = "exit_report, qualification"
+    # 18: reason 28 unless it is a move to CR0 or CR4
+    for qualification, moves in [(0, 1), (3, 0), (4, 1), (8, 0), (0x10, 0), (0x14, 0), (0x20, 0), (0x30, 0)]:
+        edge(name, 28, qualification, 0, 0, READY if moves else Refused(18))
+    # reason 55 with ECX not 0 is 20, with it 0 is 19
+    edge(name, 55, 0, 0, 0, Refused(19))
+    edge(name, 55, 0, 1, 0, Refused(20))
+    edge(name, 55, 0, 2**32, 0, Refused(19))
+    edge(name, 44, 0, 0, M64, Refused(21))
+    # CPUID advances RIP by 2 and a move to CR0 by 3: to 2^64 - 1, and past it; an interrupt window by nothing
+    edge(name, 10, 0, 0, M64 - 2, READY)
+    edge(name, 10, 0, 0, M64 - 1, Refused(17))
+    edge(name, 28, 0, 0, M64 - 3, READY)
+    edge(name, 28, 0, 0, M64 - 2, Refused(17))
+    edge(name, 7, 0, 0, M64, READY)
+    # reads of MSRs 0x800 to 0x8FF wait for the APIC's value
+    for msr, answer in [(0x7FF, READY), (0x800, WAITING), (0x8FF, WAITING), (0x900, READY)]:
+        edge(name, 31, 0, msr, 0, answer)
+
+
+def control_registers():
+    # 15: a bit under the mask, bit 0, differs from the session's, which is 0
+    name = "exit_report, masks of bit 0"
+    edge(name, 10, 0, 0, READY)
+    edge(name, 10, M64 - 1, M64 - 1, READY)
+    edge(name, 10, 1, 0, Refused(15))
+    edge(name, 10, 0, 1, Refused(15))
+    edge(name, 0x80000021, 1, 1, ENDED)  # failed, so not judged
+    edge(name, 65, 1, 1, Refused(14))  # before 15
+    edge(name, 44, 1, 0, Refused(15))  # before 21
+    # 8: RAX, EFER, allowed-1 of the entry word, RIP. Entry bit 9 is to be set where RAX has PG and LME and LMA are not both set
+    name = "exit_report, move to CR0"
+    edge(name, 0x80000000, 0, 0x200, 0, READY)
+    edge(name, 0x80000000, 0, 0xFFFFFDFF, 0, Refused(8))
+    edge(name, 0x80000000, 0x400, 0, 0, Refused(8))
+    edge(name, 0x80000000, 0x100, 0, 0, Refused(8))
+    edge(name, 0x80000000, 0x500, 0, 0, READY)
+    edge(name, 0x7FFFFFFF, 0, 0, 0, READY)
+    edge(name, 0x80000000, 0, 0, M64, Refused(17))  # before 8
+
+
+def addresses():
+    """17: the sum of CS base and address passes 2^64 - 1. Host EFER, CS rights, CS base, address."""
+    edge("gla2gva", 0, 0, 1, M64 - 1, [M64])
+    edge("gla2gva", 0, 0, 1, M64, Refused(17))
+    edge("gla2gva", 0x400, 0, 1, M64, Refused(17))
+    edge("gla2gva", 0x400, 0x2000, 1, M64, [M64])  # 64-bit mode
+
+
+for part in [
+    ports,
+    msrs,
+    registers,
+    fields,
+    controls,
+    lengths,
+    records,
+    queues,
+    entries,
+    apic_values,
+    setups,
+    reports,
+    control_registers,
+    addresses,
+]:
+    part()

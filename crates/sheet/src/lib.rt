@@ -1,4 +1,5 @@
-// The program casesheet of document 01, as a function from the text that it reads to the text that it prints.
+// The program casesheet of document 01, as a function from the text that it reads to the text that it prints; and that from a file to standard output.
+pub mod file;
 mod hex;
 mod line;
 mod text;

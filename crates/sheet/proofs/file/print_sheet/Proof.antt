@@ -1,11 +1,11 @@
--- `sheet_io::run` meets its contract: the count that `sheet` answers is within its output. Assumes nothing.
+-- `sheet::file::print_sheet` meets its contract: the count that `sheet` answers is within its output. Assumes nothing.
 use mathlib.Core.Path.{sym}
 use lib.Seq.{length-take-le}
 use borrow.Author.Needs.{needs}
 use native.Mathlib.Omega.{arith}
 use lib.ListN.{length-append}
-use Rattle.sheet_io.proofs.run.Statement.{statement}
-use Rattle.sheet_io.proofs.run.Tie as tie
+use Rattle.sheet.proofs.file.print_sheet.Statement.{statement}
+use Rattle.sheet.proofs.file.print_sheet.Tie as tie
 
 array-share-prefix-output : tie.Need-array-share-prefix-output
 array-share-prefix-output c = rw (c .sheet .ensures .1, length-append) (omega (arith, c .sheet .ensures .0))
@@ -13,8 +13,8 @@ array-share-prefix-output c = rw (c .sheet .ensures .1, length-append) (omega (a
 slice-aggregate-write-all : tie.Need-slice-aggregate-write-all
 slice-aggregate-write-all c = sym (length-take-le _ _ (array-share-prefix-output (c .before)))
 
-pub run-spec : {M : Type 1} → statement M
-run-spec =
+pub print-sheet-spec : {M : Type 1} → statement M
+print-sheet-spec =
     tie.close
     (tie.spec (λ c. search needs) (λ c κs. search needs) (λ c. search needs) (λ c. search needs) (λ c κs. search needs)
     array-share-prefix-output slice-aggregate-write-all (λ c κs. search needs) (λ c. search needs))

@@ -1,0 +1,119 @@
+// Lent lengths: a byte less and a byte more than the right one.
+use record::Record;
+
+fn new_refusal(bytes: &mut [u8], a: &mut [u8], b: &mut [u8], msr: &mut [u8]) -> u32 {
+    x86_vcpu::session::vcpu_new(bytes, a, b, msr)
+}
+
+fn port_refusal(a: &mut [u8], b: &mut [u8]) -> u32 {
+    x86_vcpu::vcpu_set_io_intercept_of_range(a, b, 0, 1, 1)
+}
+
+fn msr_refusal(frame: &mut [u8]) -> u32 {
+    x86_vcpu::vcpu_set_write_intercept(frame, 0, 1)
+}
+
+fn print_length(name: &[u8], length: u64, refusal: u32) {
+    crate::print_call(name, &[length]);
+    crate::print_accepted(refusal);
+}
+
+fn new() {
+    let mut short = [0u8; Record::LENGTH - 1];
+    let mut bytes = [0u8; Record::LENGTH];
+    let mut long = [0u8; Record::LENGTH + 1];
+    let mut a = [0u8; 4096];
+    let mut b = [0u8; 4096];
+    let mut msr = [0u8; 4096];
+    print_length(
+        b"new, record of",
+        short.len() as u64,
+        new_refusal(&mut short, &mut a, &mut b, &mut msr),
+    );
+    print_length(
+        b"new, record of",
+        bytes.len() as u64,
+        new_refusal(&mut bytes, &mut a, &mut b, &mut msr),
+    );
+    print_length(
+        b"new, record of",
+        long.len() as u64,
+        new_refusal(&mut long, &mut a, &mut b, &mut msr),
+    );
+}
+
+fn short_frames() {
+    let mut bytes = [0u8; Record::LENGTH];
+    let mut short = [0u8; 4095];
+    let mut a = [0u8; 4096];
+    let mut b = [0u8; 4096];
+    print_length(
+        b"new, A of",
+        4095,
+        new_refusal(&mut bytes, &mut short, &mut a, &mut b),
+    );
+    print_length(
+        b"new, B of",
+        4095,
+        new_refusal(&mut bytes, &mut a, &mut short, &mut b),
+    );
+    print_length(
+        b"new, MSR of",
+        4095,
+        new_refusal(&mut bytes, &mut a, &mut b, &mut short),
+    );
+    print_length(
+        b"set_io_intercept_of_range, A of",
+        4095,
+        port_refusal(&mut short, &mut b),
+    );
+    print_length(
+        b"set_io_intercept_of_range, B of",
+        4095,
+        port_refusal(&mut a, &mut short),
+    );
+    print_length(
+        b"set_write_intercept, MSR of",
+        4095,
+        msr_refusal(&mut short),
+    );
+}
+
+fn long_frames() {
+    let mut bytes = [0u8; Record::LENGTH];
+    let mut long = [0u8; 4097];
+    let mut a = [0u8; 4096];
+    let mut b = [0u8; 4096];
+    print_length(
+        b"new, A of",
+        4097,
+        new_refusal(&mut bytes, &mut long, &mut a, &mut b),
+    );
+    print_length(
+        b"new, B of",
+        4097,
+        new_refusal(&mut bytes, &mut a, &mut long, &mut b),
+    );
+    print_length(
+        b"new, MSR of",
+        4097,
+        new_refusal(&mut bytes, &mut a, &mut b, &mut long),
+    );
+    print_length(
+        b"set_io_intercept_of_range, A of",
+        4097,
+        port_refusal(&mut long, &mut b),
+    );
+    print_length(
+        b"set_io_intercept_of_range, B of",
+        4097,
+        port_refusal(&mut a, &mut long),
+    );
+    print_length(b"set_write_intercept, MSR of", 4097, msr_refusal(&mut long));
+}
+
+pub fn lengths() {
+    new();
+    short_frames();
+    long_frames();
+}

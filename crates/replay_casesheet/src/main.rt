@@ -1,4 +1,0 @@
-// Replays the oracle's list casesheet.
-fn main() {
-    sheet_io::run();
-}

@@ -1,3 +1,4 @@
 pub mod Parts
 pub mod Walk
+pub mod Walked
 pub mod Index

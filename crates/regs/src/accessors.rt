@@ -21,19 +21,38 @@ pub fn index_refusal(index: u64) -> u32
     0
 }
 
+// What the two accessors do to the registers, by value: a struct behind a reference is read and stored whole.
+fn read(g: GeneralRegisters, index: u64) -> RegAnswer
+    ensures { λ r. ⌜ r ≡ regOfIndex g index ⌝ }
+{
+    let refusal = index_refusal(index);
+    if refusal != 0 {
+        return RegAnswer::Refused(refusal);
+    }
+    let l = crate::to_array(g);
+    let i = index as usize;
+    RegAnswer::Value(l[i])
+}
+
 // The registers with the one at an index changed, or as they were where the index is refused.
 fn written(g: GeneralRegisters, index: u64, value: u64) -> GeneralRegisters
     ensures { λ r. ⌜ r ≡ withRegOfIndex g index value .regs ⌝ }
 {
-    let w = crate::with_reg_of_index(g, index, value);
-    w.regs
+    let refusal = index_refusal(index);
+    if refusal != 0 {
+        return g;
+    }
+    let mut l = crate::to_array(g);
+    let i = index as usize;
+    l[i] = value;
+    crate::of_array(l)
 }
 
 // The register at an index of borrowed registers: refusal 23.
 pub fn get_reg_of_index(regs: &GeneralRegisters, index: u64) -> RegAnswer
     ensures { λ r. ⌜ r ≡ regOfIndex (now (regs .entry)) index ⌝ }
 {
-    crate::reg_of_index(*regs, index)
+    read(*regs, index)
 }
 
 // Changes the register at an index of borrowed registers: refusal 23, and then they stay as they were.

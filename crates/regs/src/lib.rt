@@ -5,7 +5,6 @@ pub mod accessors;
 
 ghost use mathlib.Core.Path.{_≡_};
 ghost use Rattle.regs.specs.Registers.{listOf, ofList, regOfIndex, withRegOfIndex};
-use definitions::Refusal;
 
 // In the order of their encoding in an instruction.
 #[repr(C)]
@@ -88,43 +87,21 @@ pub fn of_array(l: [u64; 16]) -> GeneralRegisters
     }
 }
 
-// The register at an index (`get_reg_of_index`). Refusal 23: index 4, or above 15.
+// The register at an index, by value. Refusal 23: index 4, or above 15.
 pub fn reg_of_index(g: GeneralRegisters, index: u64) -> RegAnswer
     ensures { λ r. ⌜ r ≡ regOfIndex g index ⌝ }
 {
-    if 15 < index {
-        return RegAnswer::Refused(Refusal::INDEX);
-    }
-    if index == 4 {
-        return RegAnswer::Refused(Refusal::INDEX);
-    }
-    let l = to_array(g);
-    let i = index as usize;
-    RegAnswer::Value(l[i])
+    accessors::get_reg_of_index(&g, index)
 }
 
-// The registers with the one at an index changed (`set_reg_of_index`). Refusal 23: index 4, or above 15.
+// The registers with the one at an index changed, by value. Refusal 23: index 4, or above 15.
 pub fn with_reg_of_index(g: GeneralRegisters, index: u64, value: u64) -> RegWritten
     ensures { λ r. ⌜ r ≡ withRegOfIndex g index value ⌝ }
 {
-    if 15 < index {
-        return RegWritten {
-            refusal: Refusal::INDEX,
-            regs: g,
-        };
-    }
-    if index == 4 {
-        return RegWritten {
-            refusal: Refusal::INDEX,
-            regs: g,
-        };
-    }
-    let mut l = to_array(g);
-    let i = index as usize;
-    l[i] = value;
-    let next = of_array(l);
+    let mut next = g;
+    let refusal = accessors::set_reg_of_index(&mut next, index, value);
     RegWritten {
-        refusal: 0,
+        refusal: refusal,
         regs: next,
     }
 }

@@ -1,5 +1,5 @@
--- `regs::accessors::get_reg_of_index` meets its contract: a walk of its MIR, by hand. The borrow is looked into, the struct is copied out, the borrow is shut again, and `reg_of_index` is called on the copy.
--- The struct is never taken apart, so the walk is as long for any number of fields. All that it knows of `reg_of_index` is that it meets its contract.
+-- `regs::accessors::get_reg_of_index` meets its contract: a walk of its MIR, by hand. The borrow is looked into, the struct is copied out, the borrow is shut again, and `read` is called on the copy.
+-- The struct is never taken apart, so the walk is as long for any number of fields. All that it knows of `read` is that it meets its contract.
 -- Assumes nothing.
 use Rattle.regs.proofs.Walk.{_≡_, refl, ℕ, _<_, _^_, [], _∷_, List, URA, named, w64, Val, vint, vptr, SProp, ent, emp, via, fst∗, snd∗, exE, id⊢, GName, Lft, Share, ftrue, flft, fres, fshr-bor, Memory, Routine, Heap, Calls, Loops, WpFn, Tables, Atoms, sem, Fun, fact, Given, ‵, raw, _⊛_, ⋆, some, later, _$_, _∵_, !, qed, by, move, keep, drop, use0, use1, split, join, pick, fsplit, fsplit3, fjoin, fjoin3, feqI, suffices, frame, await, done, look, look-raw, init, forget, stop, hop, from, load, of-opd, and-then, no-more, assigns, land, returns, enter, alloc1, alloc0, params1, pass1, pass0, free1, free0, FmC, fmOf, WpFn-mono, owns, Is, shows, partAt, mem, uint-vals, uint-tells, uint-makes, u64, RefT, ShrRef, ptr-vals, shr-tells, plain, looks, shuts, owned, peeks, heard, nothing, spelt, Contract, Triple, calls-at, ensured, lasts, onEntry, Meets, tripleOf, entered, cited, says, Stays, stay-none, stay-none-ref, walkOf, AllGo, goes-none, goes-none-ref, Walks, ends-at, walked, walk-meets, yes}
 use contract.Running.{givenOf, tables, tablesOf}
@@ -12,10 +12,10 @@ use Rattle.regs.proofs.GeneralRegisters as T
 use Rattle.regs.proofs.GeneralRegisters.Laws as T′
 use Rattle.regs.proofs.RegAnswer as G
 use Rattle.regs.proofs.RegAnswer.Laws as G′
-use Rattle.regs.proofs.reg_of_index as get
-use Rattle.regs.proofs.reg_of_index.Symbol as get-def
-use Rattle.regs.proofs.reg_of_index.Symbol.{name as #regs·reg-of-index}
-use Rattle.regs.proofs.reg_of_index.Met as get-thm
+use Rattle.regs.proofs.accessors.read as get
+use Rattle.regs.proofs.accessors.read.Symbol as get-def
+use Rattle.regs.proofs.accessors.read.Symbol.{name as #accessors·read}
+use Rattle.regs.proofs.accessors.read.Met as get-thm
 use Rattle.regs.proofs.accessors.get_reg_of_index.Key.{name as #accessors·get-reg-of-index}
 use Rattle.regs.proofs.accessors.get_reg_of_index as f
 use Rattle.regs.proofs.accessors.get_reg_of_index.Statement as stated
@@ -46,7 +46,7 @@ module _ {M : Type 1} (𝓤 : URA M) (H : Heap 𝓤) (A : Atoms 𝓤) (W : Given
   abbrev Post : Val → SProp 𝓤
   Post = walkOf 𝓤 H A f.ended stayed (f.clauses 𝓤 H A mem run) .post (((κ, tt), (q, tt), tt, x, at), tt)
 
-  -- what `reg_of_index` is passed; all of it is plain data, so what it asks is had for nothing
+  -- what `read` is passed; all of it is plain data, so what it asks is had for nothing
   abbrev to-get : Get 𝓤 H A mem run .Ghost
   to-get = ((tt, tt, tt, (h, (i, tt)), (mach ∷ [], (vint w64 i ∷ [], tt))), tt)
 
@@ -68,7 +68,7 @@ module _ {M : Type 1} (𝓤 : URA M) (H : Heap 𝓤) (A : Atoms 𝓤) (W : Given
       frame ! $ move ! (1 ∷ 2 ∷ []) $ feqI ! (List Val) (vptr b o ∷ []) (vptr b o ∷ []) refl $ fjoin3 ! $ nothing ! $
       owned ! u64 (Is u64) (uint-makes 𝓤 H A W w64) i _ (refl, i-fits) $ fjoin ! $ move ! (1 ∷ 0 ∷ []) $ fjoin ! $ frame ! $ done !
 
-  module _ (C : Calls 𝓤 H) (Λ : Loops 𝓤 H) (fm : FmC 𝓤 H (W .laws) C) (known : Triple 𝓤 (C #regs·reg-of-index) (Get 𝓤 H A mem run)) where
+  module _ (C : Calls 𝓤 H) (Λ : Loops 𝓤 H) (fm : FmC 𝓤 H (W .laws) C) (known : Triple 𝓤 (C #accessors·read) (Get 𝓤 H A mem run)) where
     walk : ent 𝓤 (onEntry 𝓤 H A f.signature (κ, tt) (q, tt) x at) (WpFn 𝓤 H C Λ code.function (vptr b o ∷ vint w64 i ∷ []) Post)
     walk =
         qed W ((‵ (flft κ q) ⊛ ‵ ftrue) ∷ ‵ (owns (ShrRef (named 0) κ T.the-row ∷ u64 ∷ []) x at) ∷ []) ∵ split ! $ move ! (2 ∷ []) $ fsplit ! $ fsplit3 ! $ keep ! (2 ∷ 4 ∷ 1 ∷ []) $
@@ -93,7 +93,7 @@ module _ {M : Type 1} (𝓤 : URA M) (H : Heap 𝓤) (A : Atoms 𝓤) (W : Given
         keep ! (0 ∷ 1 ∷ 3 ∷ 2 ∷ []) $ by ! (exits r u e)))))))))))
 
 module _ {M : Type 1} (𝓤 : URA M) (H : Heap 𝓤) (A : Atoms 𝓤) (W : Given 𝓤 H A) (mem : Memory → SProp 𝓤) (run : Routine → Fun 𝓤) where
-  walks : (C : Calls 𝓤 H) (Λ : Loops 𝓤 H) → FmC 𝓤 H (W .laws) C → Triple 𝓤 (C #regs·reg-of-index) (Get 𝓤 H A mem run)
+  walks : (C : Calls 𝓤 H) (Λ : Loops 𝓤 H) → FmC 𝓤 H (W .laws) C → Triple 𝓤 (C #accessors·read) (Get 𝓤 H A mem run)
       → Walks 𝓤 H A f.ended stayed (WpFn 𝓤 H C Λ code.function) (f.clauses 𝓤 H A mem run)
   walks C Λ fm known = walked 𝓤 H A f.ended stayed (f.clauses 𝓤 H A mem run) (WpFn 𝓤 H C Λ code.function)
       (λ κs. (ptr-vals, (uint-vals w64, tt))) (λ κs. (shr-tells (named 0) (κs .0) T.the-row, (uint-tells w64, tt)))
@@ -103,7 +103,7 @@ module _ {M : Type 1} (𝓤 : URA M) (H : Heap 𝓤) (A : Atoms 𝓤) (W : Given
   goes = (goes-none-ref 𝓤 H A W 1 (0 ∷ []) tt (plain (λ _. T.the-row)) yes, (goes-none 𝓤 H A W 1 (λ _. u64) yes (λ κs x f. refl), tt))
 
 meets : {M : Type 1} (𝓤 : URA M) (H : Heap 𝓤) (A : Atoms 𝓤) (W : Given 𝓤 H A) (mem : Memory → SProp 𝓤) (run : Routine → Fun 𝓤) (𝓣 : Tables 𝓤 H)
-    → Triple 𝓤 (𝓣 .C #regs·reg-of-index) (Get 𝓤 H A mem run)
+    → Triple 𝓤 (𝓣 .C #accessors·read) (Get 𝓤 H A mem run)
     → Meets 𝓤 H A f.signature (WpFn 𝓤 H (𝓣 .C) (𝓣 .Λ) code.function) (f.spec 𝓤 H A mem run)
 meets 𝓤 H A W mem run 𝓣 known =
     walk-meets 𝓤 H A f.ended stayed W (goes 𝓤 H A W mem run) (f.clauses 𝓤 H A mem run) (WpFn 𝓤 H (𝓣 .C) (𝓣 .Λ) code.function) (WpFn-mono 𝓤 H (W .laws) 𝓣 code.function)
@@ -115,4 +115,4 @@ get-reg-of-index-spec 𝓤 H 𝓜 𝓖 𝓡 =
     entered 𝓤 H (tripleOf 𝓤 H (𝓖 .A) f.signature (f.spec 𝓤 H (𝓖 .A) (𝓜 .mem) (𝓡 .run)))
     (tables 𝓤 H 𝓜 𝓡 code.env .C) (tables 𝓤 H 𝓜 𝓡 code.env .Λ) #accessors·get-reg-of-index code.function (code.unfolded 𝓤 H 𝓜 𝓡)
     (meets 𝓤 H (𝓖 .A) (givenOf 𝓤 H 𝓜 𝓖) (𝓜 .mem) (𝓡 .run) (tablesOf 𝓤 H 𝓜 (tables 𝓤 H 𝓜 𝓡 code.env))
-    (cited 𝓤 H (Get 𝓤 H (𝓖 .A) (𝓜 .mem) (𝓡 .run)) 𝓜 𝓡 code.env #regs·reg-of-index get-def.routine code.calls-regs·reg-of-index (get-thm.met 𝓤 H 𝓜 𝓖 𝓡)))
+    (cited 𝓤 H (Get 𝓤 H (𝓖 .A) (𝓜 .mem) (𝓡 .run)) 𝓜 𝓡 code.env #accessors·read get-def.routine code.calls-regs·accessors·read (get-thm.met 𝓤 H 𝓜 𝓖 𝓡)))

@@ -1,4 +1,3 @@
 pub mod Parts
 pub mod Walk
-pub mod Walked
 pub mod Index

@@ -1,4 +1,4 @@
-// Access by index to registers that are borrowed, for a caller that keeps them in a struct of its own.
+// Access by index to borrowed registers. `reg_of_index` and `with_reg_of_index` are its forms by value.
 // Ported from x86_vcpu src/regs/accessors.rs (Copyright 2025 The Axvisor Team, Apache-2.0). Changed: the whole index is judged, and what the Rust panics
 // at is refused by 23.
 ghost use mathlib.Core.Path.{_≡_};
@@ -21,7 +21,7 @@ pub fn index_refusal(index: u64) -> u32
     0
 }
 
-// What the two accessors do to the registers, by value: a struct behind a reference is read and stored whole.
+// The register at an index, or its refusal. By value, as `written` is: the borrow checker covers no struct behind a reference.
 fn read(g: GeneralRegisters, index: u64) -> RegAnswer
     ensures { λ r. ⌜ r ≡ regOfIndex g index ⌝ }
 {

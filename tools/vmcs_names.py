@@ -45,6 +45,9 @@ out["src/names.rt"] = text
 text = "// The table of fields: the encodings of the enums of vmcs.rs but VmcsControl16, ascending.\n"
 text += PORTED % "the encodings are one table, and VmcsControl16 is left out."
 text += """ghost use mathlib.Core.Path.{_≡_};
+ghost use Prim.Native.Nat.{_<_};
+ghost use lib.ListN.{getD};
+ghost use Rattle.vmcs.specs.Lookup.{starts, counts};
 ghost use Rattle.vmcs.specs.Named.{encodings, placesNamed};
 """
 text += "".join("use names::%s;\n" % e for e in sorted(enums)).replace("use names", "use crate::names")
@@ -65,10 +68,20 @@ for place, (x, _, _) in enumerate(fields):
     if x & 0x3FF == 2 * counts[group]:
         counts[group] += 1
 for name, numbers, comment in (
-    ("STARTS", starts, "The place of the first field of each width and kind, by bits 10 to 14 of the encoding; 0 where there is none."),
-    ("COUNTS", counts, "How many fields each width and kind has, up to the first index that no field has."),
+    ("start", starts, "The place of the first field of a width and kind, by bits 10 to 14 of the encoding; 0 where there is none."),
+    ("count", counts, "How many fields a width and kind has, up to the first index that no field has."),
 ):
-    text += "\n// %s\npub const %s: [u8; 32] = [\n" % (comment, name) + "".join("    %d,\n" % n for n in numbers) + "];\n"
+    text += """
+// %s A byte string is read where it lies; a constant array would be copied first.
+pub fn %s_of(group: usize) -> u8
+    requires { ⌜ group < 32 ⌝ }
+    ensures { λ r. ⌜ r ≡ getD %ss group 0 ⌝ }
+{
+    let table =
+        b"%s";
+    table[group]
+}
+""" % (comment, name, name, "".join("\\x%02X" % n for n in numbers))
 text += """
 const PLACES: [usize; 154] = [
 """

@@ -14,8 +14,6 @@ pub mod names;
 pub mod table;
 
 use definitions::Refusal;
-use table::COUNTS;
-use table::STARTS;
 
 // The fields by width, each array in ascending order of encoding.
 pub struct Vmcs {
@@ -53,10 +51,10 @@ pub fn position(encoding: u64) -> usize
     }
     let group = (encoding >> 10) as usize;
     let index = ((encoding >> 1) % 512) as usize;
-    if COUNTS[group] as usize <= index {
+    if table::count_of(group) as usize <= index {
         return 154;
     }
-    STARTS[group] as usize + index
+    table::start_of(group) as usize + index
 }
 
 // The width in bits of the fields of an encoding: bits 13 to 14 (SDM 3D, appendix B). The natural width is 64.

@@ -1,6 +1,9 @@
 // The table of fields: the encodings of the enums of vmcs.rs but VmcsControl16, ascending.
 // Ported from the enums of x86_vcpu src/vmx/vmcs.rs (Copyright 2025 The Axvisor Team, Apache-2.0). Changed: the encodings are one table, and VmcsControl16 is left out.
 ghost use mathlib.Core.Path.{_≡_};
+ghost use Prim.Native.Nat.{_<_};
+ghost use lib.ListN.{getD};
+ghost use Rattle.vmcs.specs.Lookup.{starts, counts};
 ghost use Rattle.vmcs.specs.Named.{encodings, placesNamed};
 use crate::names::VmcsControl32;
 use crate::names::VmcsControl64;
@@ -181,77 +184,25 @@ pub fn table() -> [u64; 154]
     ENCODINGS
 }
 
-// The place of the first field of each width and kind, by bits 10 to 14 of the encoding; 0 where there is none.
-pub const STARTS: [u8; 32] = [
-    0,
-    0,
-    0,
-    10,
-    0,
-    0,
-    0,
-    0,
-    17,
-    43,
-    44,
-    55,
-    0,
-    0,
-    0,
-    0,
-    58,
-    76,
-    84,
-    107,
-    0,
-    0,
-    0,
-    0,
-    108,
-    116,
-    122,
-    142,
-    0,
-    0,
-    0,
-    0,
-];
+// The place of the first field of a width and kind, by bits 10 to 14 of the encoding; 0 where there is none. A byte string is read where it lies; a constant array would be copied first.
+pub fn start_of(group: usize) -> u8
+    requires { ⌜ group < 32 ⌝ }
+    ensures { λ r. ⌜ r ≡ getD starts group 0 ⌝ }
+{
+    let table =
+        b"\x00\x00\x00\x0A\x00\x00\x00\x00\x11\x2B\x2C\x37\x00\x00\x00\x00\x3A\x4C\x54\x6B\x00\x00\x00\x00\x6C\x74\x7A\x8E\x00\x00\x00\x00";
+    table[group]
+}
 
-// How many fields each width and kind has, up to the first index that no field has.
-pub const COUNTS: [u8; 32] = [
-    0,
-    0,
-    10,
-    7,
-    0,
-    0,
-    0,
-    0,
-    26,
-    1,
-    11,
-    3,
-    0,
-    0,
-    0,
-    0,
-    18,
-    8,
-    22,
-    1,
-    0,
-    0,
-    0,
-    0,
-    8,
-    6,
-    20,
-    12,
-    0,
-    0,
-    0,
-    0,
-];
+// How many fields a width and kind has, up to the first index that no field has. A byte string is read where it lies; a constant array would be copied first.
+pub fn count_of(group: usize) -> u8
+    requires { ⌜ group < 32 ⌝ }
+    ensures { λ r. ⌜ r ≡ getD counts group 0 ⌝ }
+{
+    let table =
+        b"\x00\x00\x0A\x07\x00\x00\x00\x00\x1A\x01\x0B\x03\x00\x00\x00\x00\x12\x08\x16\x01\x00\x00\x00\x00\x08\x06\x14\x0C\x00\x00\x00\x00";
+    table[group]
+}
 
 const PLACES: [usize; 154] = [
     VmcsGuest16::ES_SELECTOR,

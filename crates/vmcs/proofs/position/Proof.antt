@@ -8,7 +8,7 @@ use Rattle.vmcs.proofs.Lookup.{start-small, count-small, lookup-right}
 use Rattle.vmcs.proofs.position.Statement.{statement}
 use Rattle.vmcs.proofs.position.Tie as tie
 
-group : (c : tie.Else2) → c .before .before .args .encoding / 2 ^ 10 < 32
+group : (c : tie.Else3) → c .before .before .before .args .encoding / 2 ^ 10 < 32
 group c = omega arith
 
 pub position-spec : {M : Type 1} → statement M
@@ -19,10 +19,10 @@ position-spec =
     (λ c. rw (← (lookup-right (c .before .args .encoding))) (search tests))
     (λ c. rw (← (lookup-right (c .before .before .args .encoding))) (search tests))
     (λ c. rw (← (lookup-right (c .before .before .before .args .encoding))) (search tests))
-    (λ c. search needs)
-    (λ c. record { fits = omega (arith, count-small _ (group (c .before))) })
-    (λ c. rw (← (lookup-right (c .before .before .before .before .args .encoding))) (search tests))
-    (λ c. search needs)
-    (λ c. record { fits = omega (arith, start-small _ (group (c .before .before))) })
-    (λ c. record { fits = omega (arith, start-small _ (group (c .before .before))) })
-    (λ c. rw (← (lookup-right (c .before .before .before .before .args .encoding))) (search tests)))
+    (λ c κs. group c)
+    (λ c. record { fits = omega (arith, c .count-of .ensures, count-small _ (group (c .before))) })
+    (λ c. rw (← (lookup-right (c .before .before .before .before .before .args .encoding))) (search (tests, ← c .before .count-of .ensures)))
+    (λ c κs. group (c .before .before))
+    (λ c. record { fits = omega (arith, c .start-of .ensures, start-small _ (group (c .before .before .before))) })
+    (λ c. record { fits = omega (arith, c .start-of .ensures, start-small _ (group (c .before .before .before))) })
+    (λ c. rw (← (lookup-right (c .before .before .before .before .before .before .args .encoding)), c .start-of .ensures) (search (tests, ← c .before .before .count-of .ensures))))

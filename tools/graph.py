@@ -3,7 +3,8 @@
 
 Writes the mermaid graph of docs/ARCHITECTURE.md from crates.txt: the libraries by layer (the headings `# ---- NAME` of crates.txt), an arrow from each crate
 to every crate that it uses and that no other crate that it uses rests on. With --check it only says whether the document has it, whether crates.txt
-lists just the crates that the files of each crate name, and whether every crate stands in the document's table.
+lists for each crate those that its files name, and besides only crates on which these rest (the checker wants the crate of every type that a function
+holds), and whether every crate stands in the document's tables.
 """
 import glob
 import os
@@ -73,8 +74,10 @@ def main():
     if old != new:
         wrong.append("%s: the graph is not that of crates.txt (python3 tools/graph.py writes it)" % PAGE)
     for c, (_, uses) in crates.items():
-        if set(uses) != named(c, crates):
-            wrong.append("crates.txt: %s lists %s, its files name %s" % (c, " ".join(sorted(uses)), " ".join(sorted(named(c, crates)))))
+        names = named(c, crates)
+        rest = set().union(*(below(n, crates, {n}) for n in names if n in crates))
+        if not names <= set(uses) or not set(uses) <= names | rest:
+            wrong.append("crates.txt: %s lists %s, its files name %s" % (c, " ".join(sorted(uses)), " ".join(sorted(names))))
         if "`%s`" % c not in page:
             wrong.append("%s: no `%s`" % (PAGE, c))
     print("\n".join(wrong) or "%d crates, as in %s" % (len(crates), PAGE))

@@ -26,7 +26,7 @@ static uint32_t model_push(uint8_t *r, uint8_t vector, uint8_t coded, uint32_t c
 static uint32_t model_entry(uint8_t *r, uint64_t stack, uint8_t *resumed, uint8_t *event)
 {
     static const uint8_t codes[] = {8, 10, 11, 12, 13, 14, 17};
-    unsigned v = r[1069], type, code = 0;
+    unsigned v = r[1069], type, code = 0, left;
 
     if (r[0] != VCPU_READY)
         return 1;
@@ -56,12 +56,12 @@ static uint32_t model_entry(uint8_t *r, uint64_t stack, uint8_t *resumed, uint8_
     if (type == 4 || type == 5 || type == 6)
         set_field(r, 0x401A, field(r, 0x440C));
     set_field(r, 0x4016, 0x80000000u | code << 11 | type << 8 | v);
-    r[1068]--;
-    memmove(r + 1069, r + 1070, 63);
-    r[1069 + 63] = 0;
+    left = --r[1068];
+    memmove(r + 1069, r + 1070, left);
+    r[1069 + left] = 0;
     put(r, 1133, 8, get(r, 1133, 8) >> 1);
-    memmove(r + 1141, r + 1145, 252);
-    put(r, 1141 + 252, 4, 0);
+    memmove(r + 1141, r + 1145, 4 * left);
+    put(r, 1141 + 4 * left, 4, 0);
     return 0;
 }
 

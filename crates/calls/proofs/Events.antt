@@ -7,9 +7,7 @@ use native.Mathlib.Omega.{arith}
 use native.Mathlib.Nat.{not-suc-le-zero}
 use native.Mathlib.Numerals.{sub-one}
 use lib.ListN.{length, getD, take, drop, set}
-use lib.Seq.{take-append-le}
 use Rattle.bits.specs.Words.{bit, withBit}
-use Rattle.bits.proofs.BitLaws.{bit-suc}
 use Rattle.bits.proofs.WithBit.{bit-written, bit-kept, half-written, half-kept}
 use Rattle.vcpu_events.specs.Queue.{shifted}
 use Rattle.calls.specs.Calls.{eventOf, eventsOf}
@@ -27,20 +25,22 @@ events-long [] w cs a = refl
 events-long (x ∷ vs) w [] a = absurd (omega arith)
 events-long (x ∷ vs) w (z ∷ cs) a = ap suc (events-long vs (w / 2) cs (omega arith))
 
-events-last : (vs : List ℕ) (w : ℕ) (cs : List ℕ) (v c : ℕ) → length cs ≡ length vs
-    → eventsOf (vs ++ (v ∷ [])) w (cs ++ (c ∷ [])) ≡ eventsOf vs w cs ++ (eventOf v (bit (length vs) w) c ∷ [])
-events-last [] w [] v c a = refl
-events-last [] w (z ∷ cs) v c a = absurd (omega arith)
-events-last (x ∷ vs) w [] v c a = absurd (omega arith)
-events-last (x ∷ vs) w (z ∷ cs) v c a = rw (events-last vs (w / 2) cs v c (omega arith), bit-suc (length vs) w)
+-- the first n events are those of the first n places
+events-first : (n : ℕ) (vs : List ℕ) (w : ℕ) (cs us ds : List ℕ) → length cs ≡ length vs → n ≤ length vs
+    → take n (eventsOf (take n vs ++ us) w (take n cs ++ ds)) ≡ take n (eventsOf vs w cs)
+events-first zero vs w cs us ds a h = refl
+events-first (suc n) [] w cs us ds a h = absurd (not-suc-le-zero h)
+events-first (suc n) (x ∷ vs) w [] us ds a h = absurd (omega arith)
+events-first (suc n) (x ∷ vs) w (z ∷ cs) us ds a h = rw (events-first n vs (w / 2) cs us ds (omega arith) (omega arith))
 
--- the front taken off: the arrays and the word moved down
-pub events-shifted : (vs : List ℕ) (w : ℕ) (cs : List ℕ) → length cs ≡ length vs → 0 < length vs
-    → eventsOf (shifted 0 vs) (w / 2) (shifted 0 cs) ≡ drop 1 (eventsOf vs w cs) ++ (eventOf 0 (bit (length vs) w) 0 ∷ [])
+-- what waits once the front is taken off: the arrays and the word moved down
+pub events-shifted : (n : ℕ) (vs : List ℕ) (w : ℕ) (cs : List ℕ) → length cs ≡ length vs → n ≤ length vs
+    → take (n - 1) (eventsOf (shifted (n - 1) 0 vs) (w / 2) (shifted (n - 1) 0 cs)) ≡ drop 1 (take n (eventsOf vs w cs))
 unfolding shifted
-events-shifted [] w cs a h = absurd (not-suc-le-zero h)
-events-shifted (x ∷ vs) w [] a h = absurd (omega arith)
-events-shifted (x ∷ vs) w (z ∷ cs) a h = rw (bit-suc (length vs) w) (events-last vs (w / 2) cs 0 0 (omega arith))
+events-shifted zero vs w cs a h = refl
+events-shifted (suc n) [] w cs a h = absurd (not-suc-le-zero h)
+events-shifted (suc n) (x ∷ vs) w [] a h = absurd (omega arith)
+events-shifted (suc n) (x ∷ vs) w (z ∷ cs) a h = rw (sub-one (suc n)) (events-first n vs (w / 2) cs _ _ (omega arith) (omega arith))
 
 -- where one waits, it is at the front
 pub events-front : (n : ℕ) (vs : List ℕ) (w : ℕ) (cs : List ℕ) → length cs ≡ length vs → 0 < n → 0 < length vs
@@ -49,9 +49,3 @@ events-front zero vs w cs a h l = absurd (not-suc-le-zero h)
 events-front (suc n) [] w cs a h l = absurd (not-suc-le-zero l)
 events-front (suc n) (x ∷ vs) w [] a h l = absurd (omega arith)
 events-front (suc n) (x ∷ vs) w (z ∷ cs) a h l = refl
-
--- what waits once the front is off
-pub take-shifted : {A : Type 0} (n : ℕ) (l : List A) (x : A) → n ≤ length l → take (n - 1) (drop 1 l ++ (x ∷ [])) ≡ drop 1 (take n l)
-take-shifted zero l x h = refl
-take-shifted (suc n) [] x h = absurd (not-suc-le-zero h)
-take-shifted (suc n) (y ∷ l) x h = rw (sub-one (suc n)) (take-append-le n l (x ∷ []) (omega arith))

@@ -1,5 +1,5 @@
 -- Well-typed calls keep sessions within their types, and lawful: every session that they lead to has a record. Assumes nothing.
-use Prim.Native.Nat.{ℕ, zero, suc, _^_, _<_}
+use Prim.Native.Nat.{ℕ, zero, suc, _-_, _^_, _<_}
 use mathlib.Core.Path.{_≡_}
 use mathlib.Core.Bool.{Bool, true, cond, not}
 use mathlib.Core.List.{List, [], _∷_, _++_}
@@ -28,7 +28,7 @@ use Rattle.vmcs.proofs.FieldLaws.{fits-field}
 use Rattle.vcpu_session.specs.Session.{isUnlawful, Lawful, withRegs}
 use Rattle.vcpu_session.specs.declared.Session.{Session}
 use Rattle.vcpu_events.specs.Queue as Queue
-use Rattle.vcpu_events.specs.Queue.{shifted, pushed, popped, frontOf}
+use Rattle.vcpu_events.specs.Queue.{pushed, popped, frontOf}
 use Rattle.vcpu_events.specs.Entry as Entry
 use Rattle.vcpu_events.specs.Entry.{injectionOf, afterEntry, progressAfter, queueAfter, vmcsAfter, withStack, windowSet, wordOf, codeOf, withCode, withLength, injected}
 use Rattle.vcpu_events.specs.declared.Event as Core
@@ -164,6 +164,7 @@ module _ (s : Session) (h : Sound s) where
       }
   after-fits stack w n Written =
       let q = h .fits .queue in
+      let few : s .queue .waiting - 1 < 64 = omega (arith, h .lawful .waiting) in
       record {
         progress = record { phase = lit< tt; entries = omega (arith, h .fits .progress .entries); held = h .fits .progress .held };
         regs = h .fits .regs;
@@ -171,9 +172,9 @@ module _ (s : Session) (h : Sound s) where
             (stack-fits (s .vmcs) (s .progress .launched) stack w (h .fits .vmcs));
         queue = record {
           waiting = omega (arith, q .waiting);
-          vectors = numbers-shifted 0 (q .vectors) (lit< tt);
+          vectors = numbers-shifted _ 0 few (q .vectors) (lit< tt);
           coded = omega (arith, q .coded);
-          codes = numbers-shifted 0 (q .codes) (lit< tt);
+          codes = numbers-shifted _ 0 few (q .codes) (lit< tt);
         };
         capabilities = h .fits .capabilities;
       }

@@ -25,11 +25,11 @@ use Rattle.vmcs.specs.declared.Written.{Written as FieldsWritten}
 use Rattle.vmcs.proofs.TableTest.{table}
 use Rattle.regs.specs.Registers.{withRegOfIndex}
 use Rattle.regs.specs.declared.RegWritten.{RegWritten}
-use Rattle.vcpu_session.specs.Session.{withVmcs}
+use Rattle.vcpu_session.specs.Session.{withVmcs, withQueue}
 use Rattle.vcpu_session.specs.declared.Session.{Session}
 use Rattle.vcpu_session.proofs.LawfulLaws.{of-lawful}
 use Rattle.vcpu_events.specs.Queue as Queue
-use Rattle.vcpu_events.specs.Queue.{answered, pushed, popped, shifted, frontOf}
+use Rattle.vcpu_events.specs.Queue.{answered, pushed, popped, frontOf}
 use Rattle.vcpu_events.specs.Entry as Entry
 use Rattle.vcpu_events.specs.Entry.{injectionOf, afterEntry, progressAfter, queueAfter, vmcsAfter, withStack, injected}
 use Rattle.vcpu_events.specs.declared.Event as Core
@@ -58,7 +58,7 @@ use Rattle.x86_vcpu.specs.Records.{queueStep}
 use Rattle.calls.specs.Reference.{choose, Call, setup, queueEvent, injectInterrupt, entry, exitReport, apicValue, fieldWrite, registerWrite, WellTyped, Event, queuedBy, entriesBy, injectedBy, leftBy, heldBy, IsHeld, isHeld, answerOn, validBy, waits, Effect, inPhase, effect, accept, referenceStep, referenceAnswer, by, Refuses, Buffers, reportRules, rules}
 use Rattle.calls.specs.Calls.{Outcome, isRefused, eventOf, eventsOf, waitingOf, viewOf, guardedOf}
 use Rattle.calls.proofs.Choices.{cond-all, impossible, chosen, choose-ap}
-use Rattle.calls.proofs.Events.{events-set, events-long, events-shifted, events-front, take-shifted}
+use Rattle.calls.proofs.Events.{events-set, events-long, events-shifted, events-front}
 use Rattle.calls.proofs.RawWrites.{Names, raw-read, placed-listed, listed-placed}
 use Rattle.calls.proofs.WordBits.{tabled}
 use Rattle.calls.proofs.Fields.{Same, same-stack, same-window, same-injected, injected-word}
@@ -380,11 +380,8 @@ module _ (j : List Event) (s : Session) (stack : ℕ) (h : Sound s) where
       let z = stack-flags .sized in
       let e = frontOf (s .queue) in
       let q = s .queue in
-      let few : q .waiting ≤ length (eventsOf (q .vectors) (q .coded) (q .codes))
-      = omega (arith, events-long (q .vectors) (q .coded) (q .codes) (sound-alike s h), h .fits .queue .vectors .sized, h .lawful .waiting) in
-      let rest : take (q .waiting - 1) (eventsOf (shifted 0 (q .vectors)) (q .coded / 2) (shifted 0 (q .codes))) ≡ drop 1 (waitingOf s)
-      = ap (take (q .waiting - 1)) (events-shifted (q .vectors) (q .coded) (q .codes) (sound-alike s h) (omega (arith, h .fits .queue .vectors .sized)))
-      ∙ take-shifted (q .waiting) _ _ few in
+      let rest : waitingOf (withQueue s (popped q)) ≡ drop 1 (waitingOf s)
+      = events-shifted (q .waiting) (q .vectors) (q .coded) (q .codes) (sound-alike s h) (omega (arith, h .fits .queue .vectors .sized, h .lawful .waiting)) in
       let word : bit 31 (valueOf (injected begun e) VmcsControl32.VMENTRY_INTERRUPTION_INFO_FIELD) ≡ true
       = ap (bit 31) (injected-word begun e z) ∙ ap (λ (w : ℕ). eqb (w % 2) 1) (tabled (e .vector) (h .fits .queue .vectors .below 0) .word .valid) in
       λ i. record {

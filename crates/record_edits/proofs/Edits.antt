@@ -174,7 +174,7 @@ module _ {b : List ℕ} {s : Session} (h : Spells b s) where
         bytes = value-put h 3 (lit< tt) (number 4) (s .progress .held) x refl e;
       }
 
-  -- the queue: how many wait, which have a code, value i of a part, and a part moved down by one
+  -- the queue: how many wait, which have a code, value i of a part, and the n values after the first moved down by one
   with-waiting : {after : List ℕ} (x : ℕ) → Takes 1 x → after ≡ sets b Record.WAITING (bytesOf 1 x) → Spells after (withQueue s (withWaiting (s .queue) x))
   unfolding encodeOf
   with-waiting x small e =
@@ -215,20 +215,20 @@ module _ {b : List ℕ} {s : Session} (h : Spells b s) where
         bytes = element-put h 12 (lit< tt) (number 4) (s .queue .codes) refl i x (rw (h .fits .queue .codes .sized) known) e;
       }
 
-  vectors-down : {after : List ℕ} → after ≡ down b Record.VECTORS 1 63 (bytesOf 1 0) → Spells after (withQueue s (withVectors (s .queue) (shifted 0 (s .queue .vectors))))
+  vectors-down : {after : List ℕ} (n : ℕ) → n < 64 → after ≡ down b Record.VECTORS 1 n (bytesOf 1 0) → Spells after (withQueue s (withVectors (s .queue) (shifted n 0 (s .queue .vectors))))
   unfolding encodeOf
-  vectors-down e =
+  vectors-down n few e =
       record {
-        fits = vectors-fit (shifted 0 (s .queue .vectors)) (numbers-shifted 0 (h .fits .queue .vectors) (lit< tt));
-        bytes = run-shifted h 10 (lit< tt) (number 1) (s .queue .vectors) refl 63 0 (h .fits .queue .vectors .sized) e;
+        fits = vectors-fit (shifted n 0 (s .queue .vectors)) (numbers-shifted n 0 few (h .fits .queue .vectors) (lit< tt));
+        bytes = run-shifted h 10 (lit< tt) (number 1) (s .queue .vectors) refl n 0 (rw (h .fits .queue .vectors .sized) few) (rw mul-one e);
       }
 
-  codes-down : {after : List ℕ} → after ≡ down b Record.CODES 4 252 (bytesOf 4 0) → Spells after (withQueue s (withCodes (s .queue) (shifted 0 (s .queue .codes))))
+  codes-down : {after : List ℕ} (n : ℕ) → n < 64 → after ≡ down b Record.CODES 4 (n * 4) (bytesOf 4 0) → Spells after (withQueue s (withCodes (s .queue) (shifted n 0 (s .queue .codes))))
   unfolding encodeOf
-  codes-down e =
+  codes-down n few e =
       record {
-        fits = codes-fit (shifted 0 (s .queue .codes)) (numbers-shifted 0 (h .fits .queue .codes) (lit< tt));
-        bytes = run-shifted h 12 (lit< tt) (number 4) (s .queue .codes) refl 63 0 (h .fits .queue .codes .sized) e;
+        fits = codes-fit (shifted n 0 (s .queue .codes)) (numbers-shifted n 0 few (h .fits .queue .codes) (lit< tt));
+        bytes = run-shifted h 12 (lit< tt) (number 4) (s .queue .codes) refl n 0 (rw (h .fits .queue .codes .sized) few) e;
       }
 
 -- ---- an accepted record, after one edit or several
@@ -279,11 +279,12 @@ module _ (b : List ℕ) (ok : acceptedOf b ≡ true) (known : (i : ℕ) → Fits
 
   -- n events wait after it, and `word` says which of them have a code
   pub pop-held : {n word : ℕ} {b₁ b₂ b₃ b₄ : List ℕ} → n ≡ sessionOf b .queue .waiting - 1 → word ≡ sessionOf b .queue .coded / 2
-      → b₁ ≡ sets b Record.WAITING (bytesOf 1 n) → b₂ ≡ down b₁ Record.VECTORS 1 63 (bytesOf 1 0)
-      → b₃ ≡ sets b₂ Record.CODED (bytesOf 8 word) → b₄ ≡ down b₃ Record.CODES 4 252 (bytesOf 4 0)
+      → b₁ ≡ sets b Record.WAITING (bytesOf 1 n) → b₂ ≡ down b₁ Record.VECTORS 1 n (bytesOf 1 0)
+      → b₃ ≡ sets b₂ Record.CODED (bytesOf 8 word) → b₄ ≡ down b₃ Record.CODES 4 (n * 4) (bytesOf 4 0)
       → Holds b₄ (withQueue (sessionOf b) (popped (sessionOf b .queue)))
   unfolding popped
   pop-held {n} {word} less halved e₁ e₂ e₃ e₄ =
-      let few : n ≤ 64 = omega (arith, lawful .waiting) in
+      let few : n < 64 = omega (arith, lawful .waiting) in
       let small : Takes 8 word = omega (arith, own .fits .queue .coded) in
-      rw (← less, ← halved) (held (codes-down (with-coded (vectors-down (with-waiting own n (omega arith) e₁) e₂) word small e₃) e₄) (lawful .phase) few (lawful .held))
+      let two = with-coded (vectors-down (with-waiting own n (omega arith) e₁) n few e₂) word small e₃ in
+      rw (← less, ← halved) (held (codes-down two n few e₄) (lawful .phase) (omega arith) (lawful .held))

@@ -1,10 +1,10 @@
--- Numbers that fit, one of them changed or all moved down by one. Assumes nothing.
+-- Numbers that fit, one of them changed or some moved down by one. Assumes nothing.
 use mathlib.Core.Path.{_≡_, sym, _∙_, subst}
 use mathlib.Core.List.{List, [], _∷_, _++_}
 use Prim.Native.Nat.{ℕ, zero, suc, _+_, _^_, _<_}
 use native.Mathlib.Omega.{arith}
-use lib.ListN.{length, getD, drop, set, length-set, length-append}
-use lib.Seq.{drop-cons, drop-length}
+use lib.ListN.{length, getD, take, drop, set, length-set, length-append, length-drop}
+use lib.Seq.{drop-cons, drop-length, getD-drop, length-take-le}
 use Rattle.bits.specs.LittleEndian.{Below}
 use Rattle.regs.specs.Registers.{listOf, ofList, withReg}
 use Rattle.regs.specs.declared.GeneralRegisters.{GeneralRegisters}
@@ -24,25 +24,28 @@ below-set m (v ∷ l) (suc i) x b h (suc j) = below-set m l i x (λ n. b (suc n)
 pub numbers-set : {n k : ℕ} {vs : List ℕ} (i x : ℕ) → Numbers n k vs → x < 256 ^ k → Numbers n k (set vs i x)
 numbers-set {n} {k} {vs} i x f h = record { sized = length-set vs i x ∙ f .sized; below = below-set (256 ^ k) vs i x (f .below) h }
 
-below-shifted : (m : ℕ) (l : List ℕ) (x : ℕ) → Below m l → x < m → Below m (drop 1 l ++ (x ∷ []))
-below-shifted m [] x b h zero = h
-below-shifted m [] x b h (suc j) = b j
-below-shifted m (v ∷ l) x b h j = last l (λ n. b (suc n)) j
+below-front : (m n : ℕ) (us vs : List ℕ) → Below m us → Below m vs → Below m (take n us ++ vs)
+below-front m zero us vs b c j = c j
+below-front m (suc n) [] vs b c j = c j
+below-front m (suc n) (u ∷ us) vs b c zero = b 0
+below-front m (suc n) (u ∷ us) vs b c (suc j) = below-front m n us vs (λ i. b (suc i)) c j
+
+below-drop : (m n : ℕ) (l : List ℕ) → Below m l → Below m (drop n l)
+below-drop m n l b j = rw (getD-drop n l j 0) (b (n + j))
+
+pub numbers-shifted : {n k : ℕ} {vs : List ℕ} (i x : ℕ) → i < n → Numbers n k vs → x < 256 ^ k → Numbers n k (shifted i x vs)
+unfolding shifted
+numbers-shifted {n} {k} {vs} i x within f h =
+    let behind = take i (drop 1 vs) in
+    let count : length behind ≡ i = length-take-le i (drop 1 vs) (rw length-drop (omega (arith, f .sized))) in
+    record {
+      sized = omega (arith, length-append behind (x ∷ drop (suc i) vs), length-drop (suc i) vs, count, f .sized);
+      below = below-front (256 ^ k) i (drop 1 vs) (x ∷ drop (suc i) vs) (below-drop (256 ^ k) 1 vs (f .below)) freed;
+    }
   where
-    last : (us : List ℕ) → Below m us → Below m (us ++ (x ∷ []))
-    last [] d zero = h
-    last [] d (suc i) = d i
-    last (u ∷ us) d zero = d 0
-    last (u ∷ us) d (suc i) = last us (λ n. d (suc n)) i
-
-length-shifted : (x : ℕ) (vs : List ℕ) {n : ℕ} → length vs ≡ suc n → length (shifted x vs) ≡ suc n
-unfolding shifted
-length-shifted x [] e = absurd (omega arith)
-length-shifted x (v ∷ vs) e = rw (length-append vs (x ∷ [])) (omega arith)
-
-pub numbers-shifted : {n k : ℕ} {vs : List ℕ} (x : ℕ) → Numbers (suc n) k vs → x < 256 ^ k → Numbers (suc n) k (shifted x vs)
-unfolding shifted
-numbers-shifted {n} {k} {vs} x f h = record { sized = length-shifted x vs (f .sized); below = below-shifted (256 ^ k) vs x (f .below) h }
+    freed : Below (256 ^ k) (x ∷ drop (suc i) vs)
+    freed zero = h
+    freed (suc j) = below-drop (256 ^ k) (suc i) vs (f .below) j
 
 -- ---- the registers as a list of 16
 

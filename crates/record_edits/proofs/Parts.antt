@@ -1,11 +1,11 @@
 -- Stores in the bytes of a session, part by part. Assumes nothing.
 use mathlib.Core.Path.{_≡_, refl, sym, ap, _∙_}
-use mathlib.Core.List.{List, [], _∷_, _++_, map, flatMap, flatten, append-nil, append-assoc}
+use mathlib.Core.List.{List, [], _∷_, _++_, map, flatMap, flatten, append-assoc}
 use Prim.Native.Nat.{ℕ, zero, suc, _+_, _*_, _≤_, _<_}
 use native.Mathlib.Nat.{zero-add, add-zero, suc-add, zero-mul, suc-mul, add-assoc, mul-le-mul-right, not-suc-le-zero}
 use native.Mathlib.Omega.{arith}
-use lib.ListN.{length, getD, take, drop, set, length-set, length-append}
-use lib.Seq.{sets, set-append-left, drop-at, take-at, drop-drop, drop-cons}
+use lib.ListN.{length, getD, take, drop, set, length-set, length-append, length-drop, take-append-drop}
+use lib.Seq.{sets, sets-eq, set-append-left, drop-at, take-at, drop-drop, drop-cons, length-take-le}
 use Rattle.vcpu_events.specs.Queue.{shifted}
 use Rattle.vcpu_session.specs.declared.Session.{Session}
 use Rattle.record.specs.Codec.{partsOf, encodeOf}
@@ -61,6 +61,20 @@ module _ {A : Type 0} (form : Form A) where
       let place : suc i * form .size ≡ length (form .write v) + i * form .size = omega (arith, suc-mul i (form .size), form .each v) in
       rw (place, sets-right, sets-value vs i x (omega arith))
 
+  -- the first n values of a run, and the others
+  module _ (n : ℕ) (vs : List A) (within : n ≤ length vs) where
+    split : flatMap (form .write) vs ≡ flatMap (form .write) (take n vs) ++ flatMap (form .write) (drop n vs)
+    split = ap (flatMap (form .write)) (sym (take-append-drop n vs)) ∙ flatMap-append (form .write) (take n vs) (drop n vs)
+
+    first : length (flatMap (form .write) (take n vs)) ≡ n * form .size
+    first = length-run (take n vs) ∙ ap (λ (m : ℕ). m * form .size) (length-take-le n vs within)
+
+    run-before : (rest : List ℕ) → take (n * form .size) (flatMap (form .write) vs ++ rest) ≡ flatMap (form .write) (take n vs)
+    run-before rest = rw (split, append-assoc) (take-at (flatMap (form .write) (take n vs)) _ (n * form .size) first)
+
+    run-after : drop (n * form .size) (flatMap (form .write) vs) ≡ flatMap (form .write) (drop n vs)
+    run-after = rw split (drop-at (flatMap (form .write) (take n vs)) _ (n * form .size) first)
+
 -- ---- part k of a session's bytes
 
 -- the bytes of a session whose numbers fit
@@ -79,9 +93,11 @@ module _ {b : List ℕ} {s : Session} (h : Spells b s) (k : ℕ) (known : k < 16
   unfolding encodeOf
   in-part m us room = rw (h .bytes, ← lengths s (h .fits)) (sets-part k (partsOf s) m us known room)
 
+  at-start : (us : List ℕ) → length us ≤ length part → sets b at us ≡ flatten (set (partsOf s) k (sets part 0 us))
+  at-start us room = ap (λ (n : ℕ). sets b n us) (sym (add-zero at)) ∙ in-part 0 us (omega arith)
+
   whole-part : (us : List ℕ) → length us ≡ length part → sets b at us ≡ flatten (set (partsOf s) k us)
-  whole-part us same =
-      ap (λ (n : ℕ). sets b n us) (sym (add-zero at)) ∙ in-part 0 us (omega arith) ∙ ap (λ (p : List ℕ). flatten (set (partsOf s) k p)) (sets-whole part us same)
+  whole-part us same = at-start us (omega arith) ∙ ap (λ (p : List ℕ). flatten (set (partsOf s) k p)) (sets-whole part us same)
 
   module _ {A : Type 0} (form : Form A) where
     -- the part is one value
@@ -107,33 +123,22 @@ module _ {b : List ℕ} {s : Session} (h : Spells b s) (k : ℕ) (known : k < 16
           rw (h .bytes, ← lengths s (h .fits)) (from-part k (partsOf s) ∙ ap flatten (drop-cons (partsOf s) k [] there))
           ∙ ap (λ (p : List ℕ). p ++ flatten (drop (suc k) (partsOf s))) run
 
-      -- the bytes of the n values after its first
-      moved : (n : ℕ) → length vs ≡ suc n → take (n * form .size) (drop (at + form .size) b) ≡ flatMap (form .write) (drop 1 vs)
-      unfolding flatMap
-      moved n all = rw (← drop-drop (form .size) at b, from) (rest vs all)
-        where
-          rest : (us : List A) → length us ≡ suc n → take (n * form .size) (drop (form .size) (flatMap (form .write) us ++ flatten (drop (suc k) (partsOf s)))) ≡ flatMap (form .write) (drop 1 us)
-          rest [] e = absurd (omega arith)
-          rest (u ∷ us) e =
-              let count : length us ≡ n = omega arith in
-              rw (append-assoc, drop-at (form .write u) _ (form .size) (form .each u), take-at (flatMap (form .write) us) _ (n * form .size) (rw (length-run form us, count)))
-
-      -- the values moved down by one, and x last
-      pub run-shifted : {after : List ℕ} (n : ℕ) (x : A) → length vs ≡ suc n
+      -- the n values after the first moved down by one, and x in the place that they free
+      pub run-shifted : {after : List ℕ} (n : ℕ) (x : A) → n < length vs
           → after ≡ sets (sets b at (take (n * form .size) (drop (at + form .size) b))) (at + n * form .size) (form .write x)
-          → after ≡ flatten (set (partsOf s) k (flatMap (form .write) (shifted x vs)))
+          → after ≡ flatten (set (partsOf s) k (flatMap (form .write) (shifted n x vs)))
       unfolding shifted flatMap
-      run-shifted n x all e =
-          let others : length (drop 1 vs) ≡ n = less vs all in
-          let joined : flatMap (form .write) (drop 1 vs ++ (x ∷ [])) ≡ flatMap (form .write) (drop 1 vs) ++ form .write x = last (drop 1 vs) in
-          let size-of : n * form .size ≡ length (flatMap (form .write) (drop 1 vs)) = sym (rw (length-run form (drop 1 vs), others)) in
-          let same : length (flatMap (form .write) (drop 1 vs) ++ form .write x) ≡ length part =
-          rw (run, length-run form vs, all) (omega (arith, length-append (flatMap (form .write) (drop 1 vs)) (form .write x), form .each x, size-of, suc-mul n (form .size))) in
-          rw (e, moved n all, size-of, sets-append, joined) (whole-part (flatMap (form .write) (drop 1 vs) ++ form .write x) same)
+      run-shifted n x within e =
+          let front = flatMap (form .write) (take n (drop 1 vs)) in
+          let rest = flatMap (form .write) (drop (suc n) vs) in
+          let moved : take (n * form .size) (drop (at + form .size) b) ≡ front = rw (← drop-drop (form .size) at b, from) (behind vs within) in
+          let count : length front ≡ n * form .size = first form n (drop 1 vs) (rw length-drop (omega arith)) in
+          let more : length (front ++ form .write x) ≡ suc n * form .size = omega (arith, length-append front (form .write x), form .each x, count, suc-mul n (form .size)) in
+          let room : length (front ++ form .write x) ≤ length (flatMap (form .write) vs) = rw (more, length-run form vs) (mul-le-mul-right (form .size) within) in
+          let stored : sets (flatMap (form .write) vs) 0 (front ++ form .write x) ≡ front ++ (form .write x ++ rest) =
+          rw (sets-eq (front ++ form .write x) (flatMap (form .write) vs) 0 (rw zero-add room), zero-add, more, run-after form (suc n) vs within) (append-assoc front (form .write x) rest) in
+          rw (e, moved, ← count, sets-append, flatMap-append) (at-start (front ++ form .write x) (rw run room) ∙ ap (λ (p : List ℕ). flatten (set (partsOf s) k p)) (rw run stored))
         where
-          less : (us : List A) → length us ≡ suc n → length (drop 1 us) ≡ n
-          less [] p = absurd (omega arith)
-          less (u ∷ us) p = omega arith
-
-          last : (us : List A) → flatMap (form .write) (us ++ (x ∷ [])) ≡ flatMap (form .write) us ++ form .write x
-          last us = flatMap-append (form .write) us (x ∷ []) ∙ ap (λ (l : List ℕ). flatMap (form .write) us ++ l) (append-nil (form .write x))
+          behind : (us : List A) → n < length us → take (n * form .size) (drop (form .size) (flatMap (form .write) us ++ flatten (drop (suc k) (partsOf s)))) ≡ flatMap (form .write) (take n (drop 1 us))
+          behind [] h = absurd (not-suc-le-zero h)
+          behind (u ∷ us) h = rw (append-assoc, drop-at (form .write u) _ (form .size) (form .each u)) (run-before form n us (omega arith) _)

@@ -132,17 +132,19 @@ fn move_down(b: &mut [u8], at: usize, by: usize, n: usize)
     }
 }
 
-// The queue without its front, the others moved down.
+// The queue without its front: the events behind it moved down, and 0 in the place that they free.
 pub fn pop_front(b: &mut [u8])
     requires { ⌜ acceptedOf (now b) ≡ true ⌝ }
     ensures { λ _. ⌜ Holds (now (b .exit)) (withQueue (sessionOf (now (b .entry))) (popped (sessionOf (now (b .entry)) .queue))) ⌝ }
 {
     let waiting = record::waiting_at(b);
     let coded = record::coded_at(b);
-    words::put1(b, Record::WAITING, vcpu_events::less_one(waiting));
-    move_down(b, Record::VECTORS, 1, 63);
-    words::put1(b, Record::VECTORS + 63, 0);
+    let left = vcpu_events::less_one(waiting);
+    let n = left as usize;
+    words::put1(b, Record::WAITING, left);
+    move_down(b, Record::VECTORS, 1, n);
+    words::put1(b, Record::VECTORS + n, 0);
     words::put8(b, Record::CODED, coded / 2);
-    move_down(b, Record::CODES, 4, 252);
-    words::put4(b, Record::CODES + 252, 0);
+    move_down(b, Record::CODES, 4, n * 4);
+    words::put4(b, Record::CODES + n * 4, 0);
 }

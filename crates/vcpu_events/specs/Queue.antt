@@ -1,9 +1,9 @@
 -- The queue of events, and queueing one (document 01, "Session" and "The operations and their numbers"). Assumes nothing.
-use Prim.Native.Nat.{ℕ, _+_, _-_, _/_}
+use Prim.Native.Nat.{ℕ, suc, _+_, _-_, _/_}
 use mathlib.Core.Bool.{Bool, false, cond}
-use mathlib.Core.List.{List, [], _∷_, _++_}
+use mathlib.Core.List.{List, _∷_, _++_}
 use lib.Dec.{eqb, leb, ltb}
-use lib.ListN.{getD, set, drop}
+use lib.ListN.{getD, set, take, drop}
 use Rattle.bits.specs.Words.{bit, withBit}
 use Rattle.vcpu_session.specs.Phase as Phase
 use Rattle.vcpu_session.specs.Session.{isUnlawful, withQueue}
@@ -16,18 +16,18 @@ use Rattle.vcpu_events.specs.declared.Answered.{Answered}
 abbrev pub frontOf : Queue → Event
 frontOf q = record { vector = getD (q .vectors) 0 0; coded = bit 0 (q .coded); code = getD (q .codes) 0 0 }
 
--- a list without its first element, the others moved down, and x in the place that is freed
-unfoldable pub shifted : {A : Type 0} → A → List A → List A
-shifted x l = drop 1 l ++ (x ∷ [])
+-- the n elements after the first moved down by one place, and x in the place that they free: the places after it stay as they are
+unfoldable pub shifted : {A : Type 0} → ℕ → A → List A → List A
+shifted n x l = take n (drop 1 l) ++ (x ∷ drop (suc n) l)
 
--- the queue without its front
+-- the queue without its front, and 0 where its last event was
 unfoldable pub popped : Queue → Queue
 popped q =
     record {
       waiting = q .waiting - 1;
-      vectors = shifted 0 (q .vectors);
+      vectors = shifted (q .waiting - 1) 0 (q .vectors);
       coded = q .coded / 2;
-      codes = shifted 0 (q .codes);
+      codes = shifted (q .waiting - 1) 0 (q .codes);
     }
 
 -- the queue with an event last: a code that is not given is stored as 0

@@ -1,10 +1,4 @@
 // Registers, fields, control words and linear addresses.
-use record::Record;
-
-// Writes a field by its encoding: the refusal.
-pub fn write(bytes: &mut [u8; Record::LENGTH], encoding: u64, value: u64) -> u32 {
-    x86_vcpu::session::vcpu_write_field(bytes, encoding, value)
-}
 
 fn get_register(index: u64) {
     let bytes = crate::new_record();

@@ -42,78 +42,49 @@ fn new() {
     );
 }
 
-fn short_frames() {
+// A frame of a wrong length, in each place.
+fn wrong_new(frame: &mut [u8], length: u64) {
     let mut bytes = [0u8; Record::LENGTH];
-    let mut short = [0u8; 4095];
     let mut a = [0u8; 4096];
     let mut b = [0u8; 4096];
     print_length(
         b"new, A of",
-        4095,
-        new_refusal(&mut bytes, &mut short, &mut a, &mut b),
+        length,
+        new_refusal(&mut bytes, frame, &mut a, &mut b),
     );
     print_length(
         b"new, B of",
-        4095,
-        new_refusal(&mut bytes, &mut a, &mut short, &mut b),
+        length,
+        new_refusal(&mut bytes, &mut a, frame, &mut b),
     );
     print_length(
         b"new, MSR of",
-        4095,
-        new_refusal(&mut bytes, &mut a, &mut b, &mut short),
-    );
-    print_length(
-        b"set_io_intercept_of_range, A of",
-        4095,
-        port_refusal(&mut short, &mut b),
-    );
-    print_length(
-        b"set_io_intercept_of_range, B of",
-        4095,
-        port_refusal(&mut a, &mut short),
-    );
-    print_length(
-        b"set_write_intercept, MSR of",
-        4095,
-        msr_refusal(&mut short),
+        length,
+        new_refusal(&mut bytes, &mut a, &mut b, frame),
     );
 }
 
-fn long_frames() {
-    let mut bytes = [0u8; Record::LENGTH];
-    let mut long = [0u8; 4097];
+fn wrong_edits(frame: &mut [u8], length: u64) {
     let mut a = [0u8; 4096];
-    let mut b = [0u8; 4096];
-    print_length(
-        b"new, A of",
-        4097,
-        new_refusal(&mut bytes, &mut long, &mut a, &mut b),
-    );
-    print_length(
-        b"new, B of",
-        4097,
-        new_refusal(&mut bytes, &mut a, &mut long, &mut b),
-    );
-    print_length(
-        b"new, MSR of",
-        4097,
-        new_refusal(&mut bytes, &mut a, &mut b, &mut long),
-    );
     print_length(
         b"set_io_intercept_of_range, A of",
-        4097,
-        port_refusal(&mut long, &mut b),
+        length,
+        port_refusal(frame, &mut a),
     );
     print_length(
         b"set_io_intercept_of_range, B of",
-        4097,
-        port_refusal(&mut a, &mut long),
+        length,
+        port_refusal(&mut a, frame),
     );
-    print_length(b"set_write_intercept, MSR of", 4097, msr_refusal(&mut long));
+    print_length(b"set_write_intercept, MSR of", length, msr_refusal(frame));
 }
 
 pub fn lengths() {
     new();
-    short_frames();
-    long_frames();
+    let mut short = [0u8; 4095];
+    let mut long = [0u8; 4097];
+    wrong_new(&mut short, 4095);
+    wrong_edits(&mut short, 4095);
+    wrong_new(&mut long, 4097);
+    wrong_edits(&mut long, 4097);
 }

@@ -24,12 +24,12 @@ fn put8(block: &mut [u8; Layout::LENGTH], at: usize, value: u64) {
 fn print_report(bytes: &mut [u8; Record::LENGTH], block: &[u8; Layout::LENGTH]) {
     let mut answer = [0u64; 8];
     let refusal = x86_vcpu::report::vcpu_exit_report(bytes, block, &mut answer);
-    crate::print_answer(refusal, &[crate::sessions::phase_of(bytes)]);
+    crate::print_answer(refusal, &[crate::phase_of(bytes)]);
 }
 
 // A report to a session in a phase.
 fn report_in(phase: u8, reason: u32) {
-    let mut bytes = crate::sessions::in_phase(phase);
+    let mut bytes = crate::in_phase(phase);
     let mut block = [0u8; Layout::LENGTH];
     put4(&mut block, Layout::REASON, reason);
     crate::print_call(b"exit_report", &[phase as u64, reason as u64]);
@@ -70,7 +70,7 @@ fn reasons() {
 
 // A report with interruption information.
 fn interruption(reason: u32, information: u32) {
-    let mut bytes = crate::sessions::in_phase(Phase::RUNNING);
+    let mut bytes = crate::in_phase(Phase::RUNNING);
     let mut block = [0u8; Layout::LENGTH];
     put4(&mut block, Layout::REASON, reason);
     put4(&mut block, Layout::INTERRUPTION, information);
@@ -83,7 +83,7 @@ fn interruption(reason: u32, information: u32) {
 
 // A report with a qualification, RCX and RIP.
 fn report(reason: u32, qualification: u64, rcx: u64, rip: u64) {
-    let mut bytes = crate::sessions::in_phase(Phase::RUNNING);
+    let mut bytes = crate::in_phase(Phase::RUNNING);
     let mut block = [0u8; Layout::LENGTH];
     put4(&mut block, Layout::REASON, reason);
     put8(&mut block, Layout::QUALIFICATION, qualification);
@@ -128,9 +128,9 @@ pub fn reports() {
 
 // Bit 0 of CR0 and of CR4 is under its guest/host mask, and 0 in the session.
 fn masked(reason: u32, cr0: u64, cr4: u64) {
-    let mut bytes = crate::sessions::in_phase(Phase::RUNNING);
-    crate::fields::write(&mut bytes, CR0_GUEST_HOST_MASK, 1);
-    crate::fields::write(&mut bytes, CR4_GUEST_HOST_MASK, 1);
+    let mut bytes = crate::in_phase(Phase::RUNNING);
+    crate::write(&mut bytes, CR0_GUEST_HOST_MASK, 1);
+    crate::write(&mut bytes, CR4_GUEST_HOST_MASK, 1);
     let mut block = [0u8; Layout::LENGTH];
     put4(&mut block, Layout::REASON, reason);
     put8(&mut block, Layout::CR0, cr0);
@@ -141,8 +141,8 @@ fn masked(reason: u32, cr0: u64, cr4: u64) {
 
 // A move of RAX to CR0, with EFER and allowed-1 of the entry word.
 fn move_to_cr0(rax: u64, efer: u64, allowed1: u32, rip: u64) {
-    let mut bytes = crate::sessions::in_phase(Phase::RUNNING);
-    crate::sessions::put4(&mut bytes, Record::PAIRS + 36, allowed1);
+    let mut bytes = crate::in_phase(Phase::RUNNING);
+    crate::put4(&mut bytes, Record::PAIRS + 36, allowed1);
     let mut block = [0u8; Layout::LENGTH];
     put8(&mut block, Layout::REGS, rax);
     put8(&mut block, Layout::EFER, efer);

@@ -1,79 +1,20 @@
 // Records, the queue, entries and APIC values.
 use record::Record;
-use record::words;
 use vcpu_session::Phase;
 
 const INTERRUPTIBILITY: u64 = 0x4824;
 
 const RFLAGS: u64 = 0x6820;
 
-// Store numbers of the record.
-fn put1(bytes: &mut [u8; Record::LENGTH], at: usize, value: u8) {
-    if at < Record::LENGTH {
-        words::put1(bytes, at, value);
-    }
-}
-
-pub fn put4(bytes: &mut [u8; Record::LENGTH], at: usize, value: u32) {
-    if at < Record::LENGTH - 3 {
-        words::put4(bytes, at, value);
-    }
-}
-
-struct Counts {
-    refusal: u32,
-    phase: u64,
-    launched: u64,
-    waiting: u64,
-    entries: u64,
-    held: u64,
-}
-
-fn counts_of(bytes: &[u8; Record::LENGTH]) -> Counts {
-    let mut phase: u8 = 0;
-    let mut launched: u8 = 0;
-    let mut waiting: u8 = 0;
-    let mut entries: u32 = 0;
-    let mut held: u32 = 0;
-    let refusal = x86_vcpu::readings::vcpu_get_counts(
-        bytes,
-        &mut phase,
-        &mut launched,
-        &mut waiting,
-        &mut entries,
-        &mut held,
-    );
-    Counts {
-        refusal: refusal,
-        phase: phase as u64,
-        launched: launched as u64,
-        waiting: waiting as u64,
-        entries: entries as u64,
-        held: held as u64,
-    }
-}
-
-// The phase of a record.
-pub fn phase_of(bytes: &[u8; Record::LENGTH]) -> u64 {
-    counts_of(bytes).phase
-}
-
-// The record of a new session in a phase.
-pub fn in_phase(phase: u8) -> [u8; Record::LENGTH] {
-    let mut bytes = crate::new_record();
-    put1(&mut bytes, Record::PHASE, phase);
-    bytes
-}
-
 // ---- Which bytes are a record.
 
 fn record(phase: u8, launched: u8, waiting: u8, entries: u32, held: u32) {
-    let mut bytes = in_phase(phase);
-    put1(&mut bytes, Record::LAUNCHED, launched);
-    put1(&mut bytes, Record::WAITING, waiting);
-    put4(&mut bytes, Record::ENTRIES, entries);
-    put4(&mut bytes, Record::HELD, held);
-    let c = counts_of(&bytes);
+    let mut bytes = crate::in_phase(phase);
+    crate::put1(&mut bytes, Record::LAUNCHED, launched);
+    crate::put1(&mut bytes, Record::WAITING, waiting);
+    crate::put4(&mut bytes, Record::ENTRIES, entries);
+    crate::put4(&mut bytes, Record::HELD, held);
+    let c = crate::counts_of(&bytes);
     crate::print_call(
         b"get_counts",
         &[
@@ -106,8 +47,8 @@ pub fn records() {
 // ---- The queue.
 
 fn with_waiting(phase: u8, waiting: u8) -> [u8; Record::LENGTH] {
-    let mut bytes = in_phase(phase);
-    put1(&mut bytes, Record::WAITING, waiting);
+    let mut bytes = crate::in_phase(phase);
+    crate::put1(&mut bytes, Record::WAITING, waiting);
     bytes
 }
 
@@ -119,14 +60,14 @@ fn queue(phase: u8, waiting: u8, vector: u8, coded: u8) {
         b"queue_event",
         &[phase as u64, waiting as u64, vector as u64, coded as u64],
     );
-    crate::print_answer(refusal, &[counts_of(&bytes).waiting]);
+    crate::print_answer(refusal, &[crate::counts_of(&bytes).waiting]);
 }
 
 fn inject(phase: u8, waiting: u8, vector: u64) {
     let mut bytes = with_waiting(phase, waiting);
     let refusal = x86_vcpu::session::vcpu_inject_interrupt(&mut bytes, vector);
     crate::print_call(b"inject_interrupt", &[phase as u64, waiting as u64, vector]);
-    crate::print_answer(refusal, &[counts_of(&bytes).waiting]);
+    crate::print_answer(refusal, &[crate::counts_of(&bytes).waiting]);
 }
 
 pub fn queues() {
@@ -157,7 +98,7 @@ fn print_entry(bytes: &mut [u8; Record::LENGTH]) {
     let mut resumed: u8 = 0;
     let mut injection: u8 = 0;
     let refusal = x86_vcpu::session::vcpu_entry(bytes, 0, &mut resumed, &mut injection);
-    let c = counts_of(bytes);
+    let c = crate::counts_of(bytes);
     crate::print_answer(
         refusal,
         &[resumed as u64, injection as u64, c.entries, c.held],
@@ -168,10 +109,10 @@ fn print_entry(bytes: &mut [u8; Record::LENGTH]) {
 fn entry(phase: u8, entries: u32, vector: u8, rflags: u64, interruptibility: u64) {
     let mut bytes = crate::new_record();
     x86_vcpu::session::vcpu_queue_event(&mut bytes, vector, 0, 0);
-    crate::fields::write(&mut bytes, RFLAGS, rflags);
-    crate::fields::write(&mut bytes, INTERRUPTIBILITY, interruptibility);
-    put1(&mut bytes, Record::PHASE, phase);
-    put4(&mut bytes, Record::ENTRIES, entries);
+    crate::write(&mut bytes, RFLAGS, rflags);
+    crate::write(&mut bytes, INTERRUPTIBILITY, interruptibility);
+    crate::put1(&mut bytes, Record::PHASE, phase);
+    crate::put4(&mut bytes, Record::ENTRIES, entries);
     crate::print_call(
         b"entry",
         &[
@@ -186,8 +127,8 @@ fn entry(phase: u8, entries: u32, vector: u8, rflags: u64, interruptibility: u64
 }
 
 fn empty_entry(launched: u8) {
-    let mut bytes = in_phase(Phase::READY);
-    put1(&mut bytes, Record::LAUNCHED, launched);
+    let mut bytes = crate::in_phase(Phase::READY);
+    crate::put1(&mut bytes, Record::LAUNCHED, launched);
     crate::print_call(b"entry, none waiting", &[launched as u64]);
     print_entry(&mut bytes);
 }
@@ -213,14 +154,14 @@ pub fn entries() {
 // ---- The APIC value: the phase, RAX and RDX are printed.
 
 fn apic_value(phase: u8, value: u64) {
-    let mut bytes = in_phase(phase);
+    let mut bytes = crate::in_phase(phase);
     let refusal = x86_vcpu::session::vcpu_apic_value(&mut bytes, value);
     let mut rax: u64 = 0;
     let mut rdx: u64 = 0;
     x86_vcpu::readings::vcpu_get_reg_of_index(&bytes, 0, &mut rax);
     x86_vcpu::readings::vcpu_get_reg_of_index(&bytes, 2, &mut rdx);
     crate::print_call(b"apic_value", &[phase as u64, value]);
-    crate::print_answer(refusal, &[phase_of(&bytes), rax, rdx]);
+    crate::print_answer(refusal, &[crate::phase_of(&bytes), rax, rdx]);
 }
 
 pub fn apic_values() {

@@ -34,12 +34,12 @@ fn usual() -> [u8; Layout::LENGTH] {
 
 // Sets a session up in a phase, and prints its phase.
 fn print_setup(block: &[u8; Layout::LENGTH], phase: u8) {
-    let mut bytes = crate::sessions::in_phase(phase);
+    let mut bytes = crate::in_phase(phase);
     let mut a = [0u8; 4096];
     let mut b = [0u8; 4096];
     let mut msr = [0u8; 4096];
     let refusal = x86_vcpu::setup::vcpu_setup(&mut bytes, block, &mut a, &mut b, &mut msr);
-    crate::print_answer(refusal, &[crate::sessions::phase_of(&bytes)]);
+    crate::print_answer(refusal, &[crate::phase_of(&bytes)]);
 }
 
 // Two words of the block changed, by their offsets.

@@ -53,8 +53,8 @@ pub fn inject_event(n: [u64; 8]) {
         replay::print_refused(refusal);
         return;
     }
-    let word = crate::fields::read(&bytes, VMENTRY_INTERRUPTION_INFO_FIELD);
-    let code = crate::fields::read(&bytes, VMENTRY_EXCEPTION_ERR_CODE);
-    let length = crate::fields::read(&bytes, VMENTRY_INSTRUCTION_LEN);
+    let word = crate::read(&bytes, VMENTRY_INTERRUPTION_INFO_FIELD);
+    let code = crate::read(&bytes, VMENTRY_EXCEPTION_ERR_CODE);
+    let length = crate::read(&bytes, VMENTRY_INSTRUCTION_LEN);
     replay::print_numbers(&[word, code, length]);
 }

@@ -1,16 +1,15 @@
 // Replays lists of the oracle by the exported functions, on records, blocks and frames as a host holds them. Reads the lists from standard input, and prints the
 // core's answers.
-mod block;
-mod exit_report;
-mod fields;
 mod inject_event;
-mod intercepts;
 mod readings;
 mod setup;
 
+use blocks::report::Layout;
 use libc::STDIN_FILENO;
 use libc::STDOUT_FILENO;
 use record::Record;
+use record::words;
+use vcpu_session::Phase;
 
 // The lists, by the oracle's names.
 enum List {
@@ -98,6 +97,257 @@ fn set_control(n: [u64; 8]) {
     }
 }
 
+// ---- A block of numbers, each at its offset, least significant byte first.
+
+fn put_byte(b: &mut [u8], at: usize, value: u8) {
+    if at < b.len() {
+        b[at] = value;
+    }
+}
+
+// Stores the low bytes of a number at the places from `from` to `to`.
+fn put(b: &mut [u8], from: usize, to: usize, value: u64) {
+    let mut rest = value;
+    let mut i = from;
+    while i < to {
+        put_byte(b, i, (rest % 0x100) as u8);
+        rest = rest / 0x100;
+        i += 1;
+    }
+}
+
+// The number at a place, or 0 past the last.
+fn number_at(numbers: [u64; 46], place: usize) -> u64 {
+    if place < 46 { numbers[place] } else { 0 }
+}
+
+// Stores the numbers from place 1 on: each has an offset, and goes up to the next one.
+fn put_all(b: &mut [u8], offsets: &[usize], numbers: [u64; 46]) {
+    let mut i = 1;
+    while i < offsets.len() {
+        put(b, offsets[i - 1], offsets[i], number_at(numbers, i));
+        i += 1;
+    }
+}
+
+// ---- Fields of a record by their encoding.
+
+// The value of a field, which the table has.
+fn read(bytes: &[u8; Record::LENGTH], encoding: u64) -> u64 {
+    let mut value: u64 = 0;
+    x86_vcpu::readings::vcpu_read_field(bytes, encoding, &mut value);
+    value
+}
+
+// An access to a field.
+enum Access {
+    Read,
+    Write(u64),
+}
+
+fn access_refusal(bytes: &mut [u8; Record::LENGTH], access: Access, encoding: u64) -> u32 {
+    let mut value: u64 = 0;
+    match access {
+        Access::Read => x86_vcpu::readings::vcpu_read_field(bytes, encoding, &mut value),
+        Access::Write(v) => x86_vcpu::session::vcpu_write_field(bytes, encoding, v),
+    }
+}
+
+// Bit i says whether an access to the field of the encoding first + i is accepted.
+fn mask(bytes: &mut [u8; Record::LENGTH], access: Access, first: u32, count: u32) -> u64 {
+    let mut accepted: u64 = 0;
+    let mut i = count;
+    while 0 < i {
+        i -= 1;
+        let refusal = access_refusal(bytes, access, first as u64 + i as u64);
+        accepted = accepted << 1 | (refusal == 0) as u64;
+    }
+    accepted
+}
+
+// Which encodings name a field, and which of three values it takes.
+fn encodings(bytes: &mut [u8; Record::LENGTH], n: [u64; 8]) {
+    let first = bits::low(n[0]);
+    let count = bits::low(n[1]);
+    let read = mask(bytes, Access::Read, first, count);
+    let zero = mask(bytes, Access::Write(0), first, count);
+    let short = mask(bytes, Access::Write(0x1_0000), first, count);
+    let long = mask(bytes, Access::Write(0x1_0000_0000), first, count);
+    replay::print_numbers(&[read, zero, short, long]);
+}
+
+// ---- Edits of the intercept frames, each on what the last left.
+
+fn print_digest(refusal: u32, frame: &[u8; 4096]) {
+    if refusal == 0 {
+        replay::print_numbers(&[replay::digest_of(frame)]);
+    } else {
+        replay::print_refused(refusal);
+    }
+}
+
+fn yes_no(x: u64) -> u8 {
+    (x % 0x100) as u8
+}
+
+fn io_intercepts(a: &mut [u8; 4096], b: &mut [u8; 4096], n: [u64; 8]) {
+    let port_base = bits::low(n[0]);
+    let count = bits::low(n[1]);
+    let refusal = x86_vcpu::vcpu_set_io_intercept_of_range(a, b, port_base, count, yes_no(n[2]));
+    if refusal == 0 {
+        replay::print_numbers(&[replay::digest_of(a), replay::digest_of(b)]);
+    } else {
+        replay::print_refused(refusal);
+    }
+}
+
+fn edit_msr(frame: &mut [u8; 4096], access: u64, msr: u32, intercept: u8) -> u32 {
+    if access == 0 {
+        return x86_vcpu::vcpu_set_read_intercept(frame, msr, intercept);
+    }
+    if access == 1 {
+        return x86_vcpu::vcpu_set_write_intercept(frame, msr, intercept);
+    }
+    x86_vcpu::vcpu_set_msr_intercept_of_range(frame, msr, intercept)
+}
+
+fn msr_intercepts(frame: &mut [u8; 4096], n: [u64; 8]) {
+    let refusal = edit_msr(frame, n[0], bits::low(n[1]), yes_no(n[2]));
+    print_digest(refusal, frame);
+}
+
+// ---- Setup.
+
+// Changes one number: place 41 is the byte that fills the frames, and a case's unused places are 0.
+fn change_argument(numbers: &mut [u64; 46], place: u64, value: u64) {
+    if place < 42 {
+        let i = place as usize;
+        numbers[i] = value;
+    }
+}
+
+// A case is four pairs of a place and a value.
+fn answer_setup(numbers: &mut [u64; 46], n: [u64; 8]) {
+    change_argument(numbers, n[0], n[1]);
+    change_argument(numbers, n[2], n[3]);
+    change_argument(numbers, n[4], n[5]);
+    change_argument(numbers, n[6], n[7]);
+    setup::answer(*numbers);
+}
+
+// ---- Exit reports: each case changes numbers of the report, words kept from setup and fields of the session, and the running session takes the report. The eight
+// words of the answer and a digest of the record are printed. The next case goes on with the report and the record.
+
+// Where the numbers of the block start, and where it ends. They stand at places 1 to 36.
+const REPORT_OFFSETS: [usize; 37] = [
+    Layout::REGS,
+    Layout::REGS + 8,
+    Layout::REGS + 16,
+    Layout::REGS + 24,
+    Layout::REGS + 32,
+    Layout::REGS + 40,
+    Layout::REGS + 48,
+    Layout::REGS + 56,
+    Layout::REGS + 64,
+    Layout::REGS + 72,
+    Layout::REGS + 80,
+    Layout::REGS + 88,
+    Layout::REGS + 96,
+    Layout::REGS + 104,
+    Layout::REGS + 112,
+    Layout::REGS + 120,
+    Layout::RIP,
+    Layout::RSP,
+    Layout::RFLAGS,
+    Layout::INTERRUPTIBILITY,
+    Layout::CR0,
+    Layout::CR3,
+    Layout::CR4,
+    Layout::EFER,
+    Layout::CS_BASE,
+    Layout::CS_RIGHTS,
+    Layout::SS_RIGHTS,
+    Layout::REASON,
+    Layout::QUALIFICATION,
+    Layout::INSTRUCTION_LENGTH,
+    Layout::INTERRUPTION,
+    Layout::ERROR_CODE,
+    Layout::CPUID_EAX,
+    Layout::CPUID_EBX,
+    Layout::CPUID_ECX,
+    Layout::CPUID_EDX,
+    Layout::LENGTH,
+];
+
+// The words kept from setup stand at places 37 to 45, in the order of the record: five pairs, allowed-1 in the high half, and four words of fixed bits.
+fn put_kept(bytes: &mut [u8; Record::LENGTH], n: [u64; 46]) {
+    let mut i: usize = 0;
+    while i < 9 {
+        words::put8(bytes, Record::PAIRS + 8 * i, n[i + 37]);
+        i += 1;
+    }
+}
+
+// One change: of a number by its place, or of a field by its encoding. A case's unused places are 0.
+fn change(bytes: &mut [u8; Record::LENGTH], numbers: &mut [u64; 46], place: u64, value: u64) {
+    if place < 46 {
+        let i = place as usize;
+        numbers[i] = value;
+    } else {
+        x86_vcpu::session::vcpu_write_field(bytes, place, value);
+    }
+}
+
+// Takes the report of these numbers, and prints the answer.
+fn take_report(bytes: &mut [u8; Record::LENGTH], n: [u64; 46]) {
+    put_kept(bytes, n);
+    words::put1(bytes, Record::PHASE, Phase::RUNNING);
+    let mut block = [0u8; Layout::LENGTH];
+    put_all(&mut block, &REPORT_OFFSETS, n);
+    let mut w = [0u64; 8];
+    let refusal = x86_vcpu::report::vcpu_exit_report(bytes, &block, &mut w);
+    if refusal == 0 {
+        let digest = replay::digest_of(bytes);
+        replay::print_numbers(&[w[0], w[1], w[2], w[3], w[4], w[5], w[6], w[7], digest]);
+    } else {
+        replay::print_refused(refusal);
+    }
+}
+
+// A case is four pairs of a place and a value.
+fn answer_exit_report(bytes: &mut [u8; Record::LENGTH], numbers: &mut [u64; 46], n: [u64; 8]) {
+    change(bytes, numbers, n[0], n[1]);
+    change(bytes, numbers, n[2], n[3]);
+    change(bytes, numbers, n[4], n[5]);
+    change(bytes, numbers, n[6], n[7]);
+    take_report(bytes, *numbers);
+}
+
+// The refusal of a report of this reason, to a new session that runs.
+fn reason_refusal(reason: u32) -> u32 {
+    let mut bytes = new_record();
+    words::put1(&mut bytes, Record::PHASE, Phase::RUNNING);
+    let mut block = [0u8; Layout::LENGTH];
+    words::put4(&mut block, Layout::REASON, reason);
+    let mut w = [0u64; 8];
+    x86_vcpu::report::vcpu_exit_report(&mut bytes, &block, &mut w)
+}
+
+// The parts of a full reason, or 14 where a report of the reason is refused by it. The list has the Rust's decoder, which takes bit 31 with any reason, so
+// the report is asked without bit 31. The Rust also has names for reasons 65 to 69, which document 01 refuses by 14: the list has no case of them.
+fn exit_info(n: [u64; 8]) {
+    let full_reason = bits::low(n[0]);
+    let info = vmcs::exit_info::exit_info(full_reason);
+    let refusal = reason_refusal(full_reason % 0x8000_0000);
+    if refusal == 14 {
+        replay::print_refused(refusal);
+    } else {
+        replay::print_numbers(&[info.entry_failure as u64, info.exit_reason as u64]);
+    }
+}
+
+// ---- Every list.
+
 // Prints the answer to one case. The record, the frames and the numbers are what the lists that are sequences go on with from case to case.
 fn answer(
     list: List,
@@ -112,16 +362,16 @@ fn answer(
             io::write_all(STDOUT_FILENO, b"no such list\n");
         }
         List::SetControl => set_control(n),
-        List::Encodings => fields::encodings(bytes, n),
-        List::IoIntercepts => intercepts::io_intercepts(a, b, n),
-        List::MsrIntercepts => intercepts::msr_intercepts(a, n),
+        List::Encodings => encodings(bytes, n),
+        List::IoIntercepts => io_intercepts(a, b, n),
+        List::MsrIntercepts => msr_intercepts(a, n),
         List::GetCpuMode => readings::get_cpu_mode(n),
         List::GetPtwInfo => readings::get_ptw_info(n),
         List::Gla2gva => readings::gla2gva(n),
         List::InjectEvent => inject_event::inject_event(n),
-        List::Setup => setup::setup(numbers, n),
-        List::ExitInfo => exit_report::exit_info(n),
-        List::ExitReport => exit_report::exit_report(bytes, numbers, n),
+        List::Setup => answer_setup(numbers, n),
+        List::ExitInfo => exit_info(n),
+        List::ExitReport => answer_exit_report(bytes, numbers, n),
     }
 }
 

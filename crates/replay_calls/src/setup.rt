@@ -61,14 +61,6 @@ const OFFSETS: [usize; 41] = [
     Layout::LENGTH,
 ];
 
-// Changes one number: place 41 is the byte that fills the frames, and a case's unused places are 0.
-fn change(numbers: &mut [u64; 46], place: u64, value: u64) {
-    if place < 42 {
-        let i = place as usize;
-        numbers[i] = value;
-    }
-}
-
 fn sum_of_digests(a: &[u8; 4096], b: &[u8; 4096], msr: &[u8; 4096]) -> u64 {
     let first = replay::digest_of(a) % 0x1_0000_0000;
     let second = replay::digest_of(b) % 0x1_0000_0000;
@@ -77,34 +69,25 @@ fn sum_of_digests(a: &[u8; 4096], b: &[u8; 4096], msr: &[u8; 4096]) -> u64 {
 }
 
 // Sets a new session up, with the frames full of the byte at place 41, and prints the answer.
-fn answer(n: [u64; 46]) {
+pub fn answer(n: [u64; 46]) {
     let fill = byte(n[41]);
     let mut bytes = crate::new_record();
     let mut a = [fill; 4096];
     let mut b = [fill; 4096];
     let mut msr = [fill; 4096];
     let mut block = [0u8; Layout::LENGTH];
-    crate::block::put_all(&mut block, &OFFSETS, n);
+    crate::put_all(&mut block, &OFFSETS, n);
     let refusal = x86_vcpu::setup::vcpu_setup(&mut bytes, &block, &mut a, &mut b, &mut msr);
     if refusal != 0 {
         replay::print_refused(refusal);
         return;
     }
-    let pin = crate::fields::read(&bytes, PINBASED_EXEC_CONTROLS);
-    let primary = crate::fields::read(&bytes, PRIMARY_PROCBASED_EXEC_CONTROLS);
-    let secondary = crate::fields::read(&bytes, SECONDARY_PROCBASED_EXEC_CONTROLS);
-    let exit = crate::fields::read(&bytes, VMEXIT_CONTROLS);
-    let entry = crate::fields::read(&bytes, VMENTRY_CONTROLS);
+    let pin = crate::read(&bytes, PINBASED_EXEC_CONTROLS);
+    let primary = crate::read(&bytes, PRIMARY_PROCBASED_EXEC_CONTROLS);
+    let secondary = crate::read(&bytes, SECONDARY_PROCBASED_EXEC_CONTROLS);
+    let exit = crate::read(&bytes, VMEXIT_CONTROLS);
+    let entry = crate::read(&bytes, VMENTRY_CONTROLS);
     let digest = replay::digest_of(&bytes);
     let frames = sum_of_digests(&a, &b, &msr);
     replay::print_numbers(&[pin, primary, secondary, exit, entry, digest, frames]);
-}
-
-// A case is four pairs of a place and a value.
-pub fn setup(numbers: &mut [u64; 46], n: [u64; 8]) {
-    change(numbers, n[0], n[1]);
-    change(numbers, n[2], n[3]);
-    change(numbers, n[4], n[5]);
-    change(numbers, n[6], n[7]);
-    answer(*numbers);
 }

@@ -3,12 +3,12 @@
 mod controls;
 mod events;
 mod exits;
-mod fields;
-mod registers;
 
 use libc::STDIN_FILENO;
 use libc::STDOUT_FILENO;
 use regs::GeneralRegisters;
+use regs::RegAnswer;
+use vmcs::FieldAnswer;
 use vmcs::Vmcs;
 
 // The lists, by the oracle's names.
@@ -57,6 +57,65 @@ fn list_of(text: &[u8]) -> List {
     List::Unknown
 }
 
+// ---- Registers and fields by value: each case goes on with what the last left.
+
+fn print_register(g: GeneralRegisters, index: u64) {
+    match regs::reg_of_index(g, index) {
+        RegAnswer::Value(value) => replay::print_numbers(&[value]),
+        RegAnswer::Refused(refusal) => replay::print_refused(refusal),
+    }
+}
+
+// Prints the answer to one case, and answers the registers after it.
+fn answer_registers(g: GeneralRegisters, n: [u64; 8]) -> GeneralRegisters {
+    if n[0] == 0 {
+        print_register(g, n[1]);
+        return g;
+    }
+    let written = regs::with_reg_of_index(g, n[1], n[2]);
+    let next = written.regs;
+    if written.refusal == 0 {
+        print_register(next, n[1]);
+    } else {
+        replay::print_refused(written.refusal);
+    }
+    next
+}
+
+fn print_field(fields: Vmcs, encoding: u64) {
+    match vmcs::vmcs_read(fields, encoding) {
+        FieldAnswer::Value(value) => replay::print_numbers(&[value]),
+        FieldAnswer::Refused(refusal) => replay::print_refused(refusal),
+    }
+}
+
+// Prints the answer to one case, and answers the fields after it.
+fn answer_fields(fields: Vmcs, n: [u64; 8]) -> Vmcs {
+    if n[0] == 0 {
+        print_field(fields, n[1]);
+        return fields;
+    }
+    let written = vmcs::vmcs_write(fields, n[1], n[2]);
+    let next = written.vmcs;
+    if written.refusal == 0 {
+        print_field(next, n[1]);
+    } else {
+        replay::print_refused(written.refusal);
+    }
+    next
+}
+
+fn no_fields() -> Vmcs {
+    Vmcs {
+        w16: [0; 17],
+        w32: [0; 50],
+        w64: [0; 41],
+        natural: [0; 46],
+    }
+}
+
+// ---- Every list.
+
 // What the lists registers and fields go on with from case to case.
 struct State {
     registers: GeneralRegisters,
@@ -66,7 +125,7 @@ struct State {
 fn new() -> State {
     State {
         registers: regs::of_array([0; 16]),
-        fields: fields::new(),
+        fields: no_fields(),
     }
 }
 
@@ -85,11 +144,11 @@ fn answer(list: List, s: State, n: [u64; 8]) -> State {
         List::CrAccessInfo => exits::cr_access_info(n),
         List::InterruptExitInfo => exits::interrupt_exit_info(n),
         List::Registers => {
-            let registers = registers::registers(s.registers, n);
+            let registers = answer_registers(s.registers, n);
             t.registers = registers;
         }
         List::Fields => {
-            let fields = fields::fields(s.fields, n);
+            let fields = answer_fields(s.fields, n);
             t.fields = fields;
         }
     }

@@ -1,10 +1,10 @@
--- `replay_calls::block::put` is safe and ends. Assumes nothing.
+-- `replay_calls::put` is safe and ends. Assumes nothing.
 use Prim.Native.Nat.{_-_}
 use mathlib.Core.Path.{_≡_}
 use borrow.Author.Needs.{needs}
 use lib.ListN.{length}
-use Rattle.replay_calls.proofs.block.put.Statement.{statement}
-use Rattle.replay_calls.proofs.block.put.Tie as tie
+use Rattle.replay_calls.proofs.put.Statement.{statement}
+use Rattle.replay_calls.proofs.put.Tie as tie
 
 abbrev Inv-loop : tie.InvT-loop
 Inv-loop b₀ from to value rest₀ i₀ b rest i = length b ≡ length b₀

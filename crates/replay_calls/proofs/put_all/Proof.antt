@@ -1,10 +1,10 @@
--- `replay_calls::block::put_all` is safe and ends. Assumes nothing.
+-- `replay_calls::put_all` is safe and ends. Assumes nothing.
 use Prim.Native.Nat.{_≤_, _-_}
 use mathlib.Core.Path.{_≡_}
 use borrow.Author.Needs.{needs}
 use lib.ListN.{length}
-use Rattle.replay_calls.proofs.block.put_all.Statement.{statement}
-use Rattle.replay_calls.proofs.block.put_all.Tie as tie
+use Rattle.replay_calls.proofs.put_all.Statement.{statement}
+use Rattle.replay_calls.proofs.put_all.Tie as tie
 
 abbrev Inv-loop : tie.InvT-loop
 Inv-loop b₀ offsets numbers i₀ b i = (1 ≤ i) × (length b ≡ length b₀)

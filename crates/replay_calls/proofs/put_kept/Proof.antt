@@ -1,8 +1,8 @@
--- `replay_calls::exit_report::put_kept` is safe and ends. Assumes nothing.
+-- `replay_calls::put_kept` is safe and ends. Assumes nothing.
 use Prim.Native.Nat.{_≤_, _-_}
 use borrow.Author.Needs.{needs}
-use Rattle.replay_calls.proofs.exit_report.put_kept.Statement.{statement}
-use Rattle.replay_calls.proofs.exit_report.put_kept.Tie as tie
+use Rattle.replay_calls.proofs.put_kept.Statement.{statement}
+use Rattle.replay_calls.proofs.put_kept.Tie as tie
 
 abbrev Inv-loop : tie.InvT-loop
 Inv-loop bytes₀ n i₀ bytes i = i ≤ 9

@@ -1,9 +1,10 @@
 #!/usr/bin/env python3
-"""What the program `edges` must print: usage tools/edges.py > crates/edges/stdout.
+"""What the programs `edges` and `edges_sessions` must print: usage tools/edges.py PROGRAM > crates/PROGRAM/stdout.
 
 Each line is a call of an exported function, its arguments, and the answer that document 01 gives: the edges of "Worked by hand", and each number of "The operations and
 their numbers" at its boundary, the last call that is accepted and the first that is refused. The answers are written out here, call by call; nothing of the port is read.
 """
+import sys
 
 M64 = 2**64 - 1
 
@@ -293,20 +294,9 @@ def addresses():
     edge("gla2gva", 0x400, 0x2000, 1, M64, [M64])  # 64-bit mode
 
 
-for part in [
-    ports,
-    msrs,
-    registers,
-    fields,
-    controls,
-    lengths,
-    records,
-    queues,
-    entries,
-    apic_values,
-    setups,
-    reports,
-    control_registers,
-    addresses,
-]:
+PROGRAMS = {
+    "edges": [ports, msrs, registers, fields, controls, lengths, addresses],
+    "edges_sessions": [records, queues, entries, apic_values, setups, reports, control_registers],
+}
+for part in PROGRAMS[sys.argv[1]]:
     part()

@@ -1,21 +1,22 @@
 // Registers, fields, control words and linear addresses.
+use record::Record;
 
 fn get_register(index: u64) {
-    let bytes = crate::new_record();
+    let bytes = [0u8; Record::LENGTH];
     let mut value: u64 = 0;
     let refusal = x86_vcpu::readings::vcpu_get_reg_of_index(&bytes, index, &mut value);
-    crate::print_call(b"get_reg_of_index", &[index]);
-    crate::print_answer(refusal, &[value]);
+    replay::print_call(b"get_reg_of_index", &[index]);
+    replay::print_answer(refusal, &[value]);
 }
 
 // The value is read back.
 fn set_register(index: u64, value: u64) {
-    let mut bytes = crate::new_record();
+    let mut bytes = [0u8; Record::LENGTH];
     let refusal = x86_vcpu::session::vcpu_set_reg_of_index(&mut bytes, index, value);
     let mut after: u64 = 0;
     x86_vcpu::readings::vcpu_get_reg_of_index(&bytes, index, &mut after);
-    crate::print_call(b"set_reg_of_index", &[index, value]);
-    crate::print_answer(refusal, &[after]);
+    replay::print_call(b"set_reg_of_index", &[index, value]);
+    replay::print_answer(refusal, &[after]);
 }
 
 fn register(index: u64) {
@@ -35,21 +36,21 @@ pub fn registers() {
 }
 
 fn read_field(encoding: u64) {
-    let bytes = crate::new_record();
+    let bytes = [0u8; Record::LENGTH];
     let mut value: u64 = 1;
     let refusal = x86_vcpu::readings::vcpu_read_field(&bytes, encoding, &mut value);
-    crate::print_call(b"read_field", &[encoding]);
-    crate::print_answer(refusal, &[value]);
+    replay::print_call(b"read_field", &[encoding]);
+    replay::print_answer(refusal, &[value]);
 }
 
 // The value is read back.
 fn write_field(encoding: u64, value: u64) {
-    let mut bytes = crate::new_record();
+    let mut bytes = [0u8; Record::LENGTH];
     let refusal = x86_vcpu::session::vcpu_write_field(&mut bytes, encoding, value);
     let mut after: u64 = 0;
     x86_vcpu::readings::vcpu_read_field(&bytes, encoding, &mut after);
-    crate::print_call(b"write_field", &[encoding, value]);
-    crate::print_answer(refusal, &[after]);
+    replay::print_call(b"write_field", &[encoding, value]);
+    replay::print_answer(refusal, &[after]);
 }
 
 pub fn fields() {
@@ -75,7 +76,7 @@ pub fn fields() {
 fn control(allowed0: u32, allowed1: u32, old: u32, set: u32, clear: u32) {
     let mut word: u32 = 0;
     let refusal = x86_vcpu::vcpu_set_control(allowed0, allowed1, old, set, clear, &mut word);
-    crate::print_call(
+    replay::print_call(
         b"set_control",
         &[
             allowed0 as u64,
@@ -85,7 +86,7 @@ fn control(allowed0: u32, allowed1: u32, old: u32, set: u32, clear: u32) {
             clear as u64,
         ],
     );
-    crate::print_answer(refusal, &[word as u64]);
+    replay::print_answer(refusal, &[word as u64]);
 }
 
 pub fn controls() {
@@ -103,13 +104,13 @@ pub fn controls() {
 }
 
 fn address(efer: u64, rights: u64, base: u64, linear: u64) {
-    let mut bytes = crate::new_record();
+    let mut bytes = [0u8; Record::LENGTH];
     x86_vcpu::session::vcpu_write_field(&mut bytes, 0x4816, rights);
     x86_vcpu::session::vcpu_write_field(&mut bytes, 0x6808, base);
     let mut value: u64 = 0;
     let refusal = x86_vcpu::readings::vcpu_gla2gva(&bytes, efer, linear, &mut value);
-    crate::print_call(b"gla2gva", &[efer, rights, base, linear]);
-    crate::print_answer(refusal, &[value]);
+    replay::print_call(b"gla2gva", &[efer, rights, base, linear]);
+    replay::print_answer(refusal, &[value]);
 }
 
 // With LMA and CS.L the mode is 64-bit, and no base is added.

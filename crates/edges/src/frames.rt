@@ -8,11 +8,11 @@ fn port(base: u32, count: u32, intercept: u8) {
     let mut a = [0u8; 4096];
     let mut b = [0u8; 4096];
     let refusal = x86_vcpu::vcpu_set_io_intercept_of_range(&mut a, &mut b, base, count, intercept);
-    crate::print_call(
+    replay::print_call(
         b"set_io_intercept_of_range",
         &[base as u64, count as u64, intercept as u64],
     );
-    crate::print_answer(refusal, &[wide(a[192]), wide(b[4095])]);
+    replay::print_answer(refusal, &[wide(a[192]), wide(b[4095])]);
 }
 
 pub fn ports() {
@@ -32,25 +32,25 @@ pub fn ports() {
 fn read(msr: u32, intercept: u8) {
     let mut frame = [0u8; 4096];
     let refusal = x86_vcpu::vcpu_set_read_intercept(&mut frame, msr, intercept);
-    crate::print_call(b"set_read_intercept", &[msr as u64, intercept as u64]);
-    crate::print_answer(refusal, &[wide(frame[1040]), wide(frame[3088])]);
+    replay::print_call(b"set_read_intercept", &[msr as u64, intercept as u64]);
+    replay::print_answer(refusal, &[wide(frame[1040]), wide(frame[3088])]);
 }
 
 fn write(msr: u32, intercept: u8) {
     let mut frame = [0u8; 4096];
     let refusal = x86_vcpu::vcpu_set_write_intercept(&mut frame, msr, intercept);
-    crate::print_call(b"set_write_intercept", &[msr as u64, intercept as u64]);
-    crate::print_answer(refusal, &[wide(frame[1040]), wide(frame[3088])]);
+    replay::print_call(b"set_write_intercept", &[msr as u64, intercept as u64]);
+    replay::print_answer(refusal, &[wide(frame[1040]), wide(frame[3088])]);
 }
 
 fn both(msr: u32, intercept: u8) {
     let mut frame = [0u8; 4096];
     let refusal = x86_vcpu::vcpu_set_msr_intercept_of_range(&mut frame, msr, intercept);
-    crate::print_call(
+    replay::print_call(
         b"set_msr_intercept_of_range",
         &[msr as u64, intercept as u64],
     );
-    crate::print_answer(refusal, &[wide(frame[1040]), wide(frame[3088])]);
+    replay::print_answer(refusal, &[wide(frame[1040]), wide(frame[3088])]);
 }
 
 fn msr(number: u32) {

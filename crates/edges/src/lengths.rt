@@ -14,8 +14,8 @@ fn msr_refusal(frame: &mut [u8]) -> u32 {
 }
 
 fn print_length(name: &[u8], length: u64, refusal: u32) {
-    crate::print_call(name, &[length]);
-    crate::print_accepted(refusal);
+    replay::print_call(name, &[length]);
+    replay::print_accepted(refusal);
 }
 
 fn new() {

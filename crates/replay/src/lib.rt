@@ -49,3 +49,33 @@ pub fn print_refused(refusal: u32) {
     io::print_decimal(STDOUT_FILENO, refusal as u64);
     io::write_all(STDOUT_FILENO, b"\n");
 }
+
+// Starts a line: the call and its arguments.
+pub fn print_call(name: &[u8], arguments: &[u64]) {
+    io::write_all(STDOUT_FILENO, name);
+    let mut i = 0;
+    while i < arguments.len() {
+        io::write_all(STDOUT_FILENO, b" ");
+        io::print_hex(STDOUT_FILENO, arguments[i], 1);
+        i += 1;
+    }
+    io::write_all(STDOUT_FILENO, b": ");
+}
+
+// Ends the line: the refusal, or the values after an accepted call.
+pub fn print_answer(refusal: u32, values: &[u64]) {
+    if refusal == 0 {
+        print_numbers(values);
+    } else {
+        print_refused(refusal);
+    }
+}
+
+// Ends the line of a call that leaves nothing to print.
+pub fn print_accepted(refusal: u32) {
+    if refusal == 0 {
+        io::write_all(STDOUT_FILENO, b"accepted\n");
+    } else {
+        print_refused(refusal);
+    }
+}

@@ -1,9 +1,9 @@
--- `edges::print_call` is safe and ends. Assumes nothing.
+-- `replay::print_call` is safe and ends. Assumes nothing.
 use Prim.Native.Nat.{_≤_, _-_}
 use borrow.Author.Needs.{needs}
 use lib.ListN.{length}
-use Rattle.edges.proofs.print_call.Statement.{statement}
-use Rattle.edges.proofs.print_call.Tie as tie
+use Rattle.replay.proofs.print_call.Statement.{statement}
+use Rattle.replay.proofs.print_call.Tie as tie
 
 abbrev Inv-loop : tie.InvT-loop
 Inv-loop name arguments i₀ t4 t6 i = i ≤ length arguments

@@ -39,7 +39,7 @@ fn print_setup(block: &[u8; Layout::LENGTH], phase: u8) {
     let mut b = [0u8; 4096];
     let mut msr = [0u8; 4096];
     let refusal = x86_vcpu::setup::vcpu_setup(&mut bytes, block, &mut a, &mut b, &mut msr);
-    crate::print_answer(refusal, &[crate::phase_of(&bytes)]);
+    replay::print_answer(refusal, &[crate::phase_of(&bytes)]);
 }
 
 // Two words of the block changed, by their offsets.
@@ -47,7 +47,7 @@ fn setup(phase: u8, first: usize, value: u64, second: usize, other: u64) {
     let mut block = usual();
     put(&mut block, first, value);
     put(&mut block, second, other);
-    crate::print_call(
+    replay::print_call(
         b"setup",
         &[phase as u64, first as u64, value, second as u64, other],
     );
@@ -64,7 +64,7 @@ fn flag(offset: usize, value: u8) {
     if offset < Layout::LENGTH {
         words::put1(&mut block, offset, value);
     }
-    crate::print_call(b"setup, yes/no byte", &[offset as u64, value as u64]);
+    replay::print_call(b"setup, yes/no byte", &[offset as u64, value as u64]);
     print_setup(&block, 0);
 }
 

@@ -24,7 +24,7 @@ fn put8(block: &mut [u8; Layout::LENGTH], at: usize, value: u64) {
 fn print_report(bytes: &mut [u8; Record::LENGTH], block: &[u8; Layout::LENGTH]) {
     let mut answer = [0u64; 8];
     let refusal = x86_vcpu::report::vcpu_exit_report(bytes, block, &mut answer);
-    crate::print_answer(refusal, &[crate::phase_of(bytes)]);
+    replay::print_answer(refusal, &[crate::phase_of(bytes)]);
 }
 
 // A report to a session in a phase.
@@ -32,7 +32,7 @@ fn report_in(phase: u8, reason: u32) {
     let mut bytes = crate::in_phase(phase);
     let mut block = [0u8; Layout::LENGTH];
     put4(&mut block, Layout::REASON, reason);
-    crate::print_call(b"exit_report", &[phase as u64, reason as u64]);
+    replay::print_call(b"exit_report", &[phase as u64, reason as u64]);
     print_report(&mut bytes, &block);
 }
 
@@ -74,7 +74,7 @@ fn interruption(reason: u32, information: u32) {
     let mut block = [0u8; Layout::LENGTH];
     put4(&mut block, Layout::REASON, reason);
     put4(&mut block, Layout::INTERRUPTION, information);
-    crate::print_call(
+    replay::print_call(
         b"exit_report, interruption",
         &[reason as u64, information as u64],
     );
@@ -89,7 +89,7 @@ fn report(reason: u32, qualification: u64, rcx: u64, rip: u64) {
     put8(&mut block, Layout::QUALIFICATION, qualification);
     put8(&mut block, Layout::REGS + 8, rcx);
     put8(&mut block, Layout::RIP, rip);
-    crate::print_call(
+    replay::print_call(
         b"exit_report, qualification",
         &[reason as u64, qualification, rcx, rip],
     );
@@ -135,7 +135,7 @@ fn masked(reason: u32, cr0: u64, cr4: u64) {
     put4(&mut block, Layout::REASON, reason);
     put8(&mut block, Layout::CR0, cr0);
     put8(&mut block, Layout::CR4, cr4);
-    crate::print_call(b"exit_report, masks of bit 0", &[reason as u64, cr0, cr4]);
+    replay::print_call(b"exit_report, masks of bit 0", &[reason as u64, cr0, cr4]);
     print_report(&mut bytes, &block);
 }
 
@@ -148,7 +148,7 @@ fn move_to_cr0(rax: u64, efer: u64, allowed1: u32, rip: u64) {
     put8(&mut block, Layout::EFER, efer);
     put8(&mut block, Layout::RIP, rip);
     put4(&mut block, Layout::REASON, 28);
-    crate::print_call(
+    replay::print_call(
         b"exit_report, move to CR0",
         &[rax, efer, allowed1 as u64, rip],
     );

@@ -15,7 +15,7 @@ fn record(phase: u8, launched: u8, waiting: u8, entries: u32, held: u32) {
     crate::put4(&mut bytes, Record::ENTRIES, entries);
     crate::put4(&mut bytes, Record::HELD, held);
     let c = crate::counts_of(&bytes);
-    crate::print_call(
+    replay::print_call(
         b"get_counts",
         &[
             phase as u64,
@@ -25,7 +25,7 @@ fn record(phase: u8, launched: u8, waiting: u8, entries: u32, held: u32) {
             held as u64,
         ],
     );
-    crate::print_answer(
+    replay::print_answer(
         c.refusal,
         &[c.phase, c.launched, c.waiting, c.entries, c.held],
     );
@@ -56,18 +56,18 @@ fn with_waiting(phase: u8, waiting: u8) -> [u8; Record::LENGTH] {
 fn queue(phase: u8, waiting: u8, vector: u8, coded: u8) {
     let mut bytes = with_waiting(phase, waiting);
     let refusal = x86_vcpu::session::vcpu_queue_event(&mut bytes, vector, coded, 0);
-    crate::print_call(
+    replay::print_call(
         b"queue_event",
         &[phase as u64, waiting as u64, vector as u64, coded as u64],
     );
-    crate::print_answer(refusal, &[crate::counts_of(&bytes).waiting]);
+    replay::print_answer(refusal, &[crate::counts_of(&bytes).waiting]);
 }
 
 fn inject(phase: u8, waiting: u8, vector: u64) {
     let mut bytes = with_waiting(phase, waiting);
     let refusal = x86_vcpu::session::vcpu_inject_interrupt(&mut bytes, vector);
-    crate::print_call(b"inject_interrupt", &[phase as u64, waiting as u64, vector]);
-    crate::print_answer(refusal, &[crate::counts_of(&bytes).waiting]);
+    replay::print_call(b"inject_interrupt", &[phase as u64, waiting as u64, vector]);
+    replay::print_answer(refusal, &[crate::counts_of(&bytes).waiting]);
 }
 
 pub fn queues() {
@@ -99,7 +99,7 @@ fn print_entry(bytes: &mut [u8; Record::LENGTH]) {
     let mut injection: u8 = 0;
     let refusal = x86_vcpu::session::vcpu_entry(bytes, 0, &mut resumed, &mut injection);
     let c = crate::counts_of(bytes);
-    crate::print_answer(
+    replay::print_answer(
         refusal,
         &[resumed as u64, injection as u64, c.entries, c.held],
     );
@@ -107,13 +107,13 @@ fn print_entry(bytes: &mut [u8; Record::LENGTH]) {
 
 // One event waits.
 fn entry(phase: u8, entries: u32, vector: u8, rflags: u64, interruptibility: u64) {
-    let mut bytes = crate::new_record();
+    let mut bytes = [0u8; Record::LENGTH];
     x86_vcpu::session::vcpu_queue_event(&mut bytes, vector, 0, 0);
     crate::write(&mut bytes, RFLAGS, rflags);
     crate::write(&mut bytes, INTERRUPTIBILITY, interruptibility);
     crate::put1(&mut bytes, Record::PHASE, phase);
     crate::put4(&mut bytes, Record::ENTRIES, entries);
-    crate::print_call(
+    replay::print_call(
         b"entry",
         &[
             phase as u64,
@@ -129,7 +129,7 @@ fn entry(phase: u8, entries: u32, vector: u8, rflags: u64, interruptibility: u64
 fn empty_entry(launched: u8) {
     let mut bytes = crate::in_phase(Phase::READY);
     crate::put1(&mut bytes, Record::LAUNCHED, launched);
-    crate::print_call(b"entry, none waiting", &[launched as u64]);
+    replay::print_call(b"entry, none waiting", &[launched as u64]);
     print_entry(&mut bytes);
 }
 
@@ -160,8 +160,8 @@ fn apic_value(phase: u8, value: u64) {
     let mut rdx: u64 = 0;
     x86_vcpu::readings::vcpu_get_reg_of_index(&bytes, 0, &mut rax);
     x86_vcpu::readings::vcpu_get_reg_of_index(&bytes, 2, &mut rdx);
-    crate::print_call(b"apic_value", &[phase as u64, value]);
-    crate::print_answer(refusal, &[crate::phase_of(&bytes), rax, rdx]);
+    replay::print_call(b"apic_value", &[phase as u64, value]);
+    replay::print_answer(refusal, &[crate::phase_of(&bytes), rax, rdx]);
 }
 
 pub fn apic_values() {

@@ -6,10 +6,10 @@ use Rattle.replay_calls.proofs.answer_all.Statement.{statement}
 use Rattle.replay_calls.proofs.answer_all.Tie as tie
 
 abbrev Inv-loop : tie.InvT-loop
-Inv-loop text list₀ bytes₀ a₀ b₀ numbers₀ at₀ list bytes a b numbers at = Unit {0}
+Inv-loop text list₀ bytes₀ numbers₀ at₀ list bytes numbers at = Unit {0}
 
 abbrev μ-loop : tie.MeasureT-loop
-μ-loop text list₀ bytes₀ a₀ b₀ numbers₀ at₀ list bytes a b numbers at = length text - at
+μ-loop text list₀ bytes₀ numbers₀ at₀ list bytes numbers at = length text - at
 
 pub answer-all-spec : {M : Type 1} → statement M
 answer-all-spec =

@@ -1,8 +1,8 @@
--- `replay_calls::mask` is safe and ends. Assumes nothing.
+-- `replay_leaves::mask` is safe and ends. Assumes nothing.
 use Prim.Native.Nat.{_≤_}
 use borrow.Author.Needs.{needs}
-use Rattle.replay_calls.proofs.mask.Statement.{statement}
-use Rattle.replay_calls.proofs.mask.Tie as tie
+use Rattle.replay_leaves.proofs.mask.Statement.{statement}
+use Rattle.replay_leaves.proofs.mask.Tie as tie
 
 abbrev Inv-loop : tie.InvT-loop
 Inv-loop bytes₀ access first count accepted₀ i₀ bytes accepted i = i ≤ count

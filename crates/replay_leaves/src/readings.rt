@@ -16,7 +16,7 @@ const CR4: u64 = 0x6804;
 const CS_BASE: u64 = 0x6808;
 
 pub fn get_cpu_mode(n: [u64; 8]) {
-    let mut bytes = crate::new_record();
+    let mut bytes = [0u8; Record::LENGTH];
     x86_vcpu::session::vcpu_write_field(&mut bytes, CS_ACCESS_RIGHTS, n[1]);
     x86_vcpu::session::vcpu_write_field(&mut bytes, CR0, n[2]);
     let mut mode: u32 = 0;
@@ -30,7 +30,7 @@ pub fn get_cpu_mode(n: [u64; 8]) {
 
 // The record of a new session with the words of a page walk.
 fn paging_record(n: [u64; 8]) -> [u8; Record::LENGTH] {
-    let mut bytes = crate::new_record();
+    let mut bytes = [0u8; Record::LENGTH];
     x86_vcpu::session::vcpu_write_field(&mut bytes, CR0, n[0]);
     x86_vcpu::session::vcpu_write_field(&mut bytes, CR3, n[1]);
     x86_vcpu::session::vcpu_write_field(&mut bytes, CR4, n[2]);
@@ -77,7 +77,7 @@ pub fn get_ptw_info(n: [u64; 8]) {
 
 // Whether the mode is real or protected makes no difference, so CR0 is 0.
 pub fn gla2gva(n: [u64; 8]) {
-    let mut bytes = crate::new_record();
+    let mut bytes = [0u8; Record::LENGTH];
     x86_vcpu::session::vcpu_write_field(&mut bytes, CS_ACCESS_RIGHTS, n[1]);
     x86_vcpu::session::vcpu_write_field(&mut bytes, CS_BASE, n[2]);
     let mut linear: u64 = 0;

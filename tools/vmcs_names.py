@@ -45,9 +45,7 @@ out["src/names.rt"] = text
 text = "// The table of fields: the encodings of the enums of vmcs.rs but VmcsControl16, ascending.\n"
 text += PORTED % "the encodings are one table, and VmcsControl16 is left out."
 text += """ghost use mathlib.Core.Path.{_≡_};
-ghost use Prim.Native.Nat.{_<_};
-ghost use lib.ListN.{getD};
-ghost use Rattle.vmcs.specs.Lookup.{starts, counts};
+ghost use Rattle.vmcs.specs.Lookup.{startOf, countOf};
 ghost use Rattle.vmcs.specs.Named.{encodings, placesNamed};
 """
 text += "".join("use names::%s;\n" % e for e in sorted(enums)).replace("use names", "use crate::names")
@@ -71,17 +69,17 @@ for name, numbers, comment in (
     ("start", starts, "The place of the first field of a width and kind, by bits 10 to 14 of the encoding; 0 where there is none."),
     ("count", counts, "How many fields a width and kind has, up to the first index that no field has."),
 ):
+    arms = "".join("        %d => %d,\n" % (group, n) for group, n in enumerate(numbers) if n)
     text += """
-// %s A byte string is read where it lies; a constant array would be copied first.
-pub fn %s_of(group: usize) -> u8
-    requires { ⌜ group < 32 ⌝ }
-    ensures { λ r. ⌜ r ≡ getD %ss group 0 ⌝ }
+// %s
+pub fn %s_of(group: u64) -> u64
+    ensures { λ r. ⌜ r ≡ %sOf group ⌝ }
 {
-    let table =
-        b"%s";
-    table[group]
+    match group {
+%s        _ => 0,
+    }
 }
-""" % (comment, name, name, "".join("\\x%02X" % n for n in numbers))
+""" % (comment, name, name, arms)
 text += """
 const PLACES: [usize; 154] = [
 """

@@ -4,14 +4,14 @@ use mathlib.Core.Bool.{Bool, true, false, cond, _&&_}
 use mathlib.Core.Logic.{_⊎_, inl, inr}
 use Prim.Native.Nat.{ℕ, _+_, _*_, _/_, _%_, _^_, _≤_, _<_}
 use native.Mathlib.Omega.{arith}
-use lib.ListN.{length, getD}
+use lib.ListN.{getD}
 use lib.Dec.{T, eqb, leb, ltb, eqb→eq, ltb→lt}
 use borrow.Author.Tests.{eqb-true, eqb-false, leb-false, ltb-true, ltb-false}
 use Rattle.bits.proofs.AllBelow.{below, at}
 use Rattle.bits.proofs.WordLaws.{and-l, and-r}
 use Rattle.vmcs.specs.Named.{named, encodings}
 use Rattle.vmcs.specs.Fields.{positionOf}
-use Rattle.vmcs.specs.Lookup.{starts, counts, lookup}
+use Rattle.vmcs.specs.Lookup.{startOf, countOf, lookup}
 use Rattle.vmcs.proofs.Scan.{at-position, position-le}
 use Rattle.vmcs.proofs.TableTest.{table}
 
@@ -24,7 +24,7 @@ abbrev stands : ℕ → Bool
 stands p = eqb (positionOf encodings (getD encodings p 0)) p
 
 looked-up : (p : ℕ) → p < 154 → lookup (getD encodings p 0) ≡ p
-unfolding encodings named lookup
+unfolding encodings named lookup startOf countOf
 looked-up p h = eqb→eq _ _ (at leads 154 tt p h)
 
 first : (p : ℕ) → p < 154 → positionOf encodings (getD encodings p 0) ≡ p
@@ -34,24 +34,22 @@ first p h = eqb→eq _ _ (at stands 154 tt p h)
 -- ---- at each index of each width and kind: the table has the encoding of these
 
 abbrev placed : ℕ → ℕ → Bool
-placed g i = ltb (getD starts g 0 + i) 154
+placed g i = ltb (startOf g + i) 154
 
 abbrev spelled : ℕ → ℕ → Bool
-spelled g i = eqb (getD encodings (getD starts g 0 + i) 0) (g * 1024 + 2 * i)
+spelled g i = eqb (getD encodings (startOf g + i) 0) (g * 1024 + 2 * i)
 
 abbrev group : ℕ → Bool
-group g = below (λ i. placed g i && spelled g i) (getD counts g 0)
+group g = below (λ i. placed g i && spelled g i) (countOf g)
 
-held : (g i : ℕ) → g < 32 → i < getD counts g 0 → T (placed g i && spelled g i)
-unfolding encodings named
-held g i h k = at (λ i. placed g i && spelled g i) (getD counts g 0) (at group 32 tt g h) i k
+held : (g i : ℕ) → g < 32 → i < countOf g → T (placed g i && spelled g i)
+unfolding encodings named startOf countOf
+held g i h k = at (λ i. placed g i && spelled g i) (countOf g) (at group 32 tt g h) i k
 
--- each start and each count is below 256
-pub start-small : (g : ℕ) → g < 32 → getD starts g 0 < 256
-start-small g h = ltb→lt _ _ (at (λ g. ltb (getD starts g 0) 256) 32 tt g h)
-
-pub count-small : (g : ℕ) → g < 32 → getD counts g 0 < 256
-count-small g h = ltb→lt _ _ (at (λ g. ltb (getD counts g 0) 256) 32 tt g h)
+-- each start is below 256
+pub start-small : (g : ℕ) → g < 32 → startOf g < 256
+unfolding startOf
+start-small g h = ltb→lt _ _ (at (λ g. ltb (startOf g) 256) 32 tt g h)
 
 -- ---- so a place that the bits give holds the encoding
 
@@ -61,10 +59,10 @@ pub record Held (e p : ℕ) : Type 0 where
 
 -- what each test gives
 abbrev answer : ℕ → Bool → Bool → Bool → Bool → ℕ
-answer e p q r s = cond p 106 (cond q 154 (cond r 154 (cond s 154 (getD starts (e / 2 ^ 10) 0 + e / 2 % 512))))
+answer e p q r s = cond p 106 (cond q 154 (cond r 154 (cond s 154 (startOf (e / 2 ^ 10) + e / 2 % 512))))
 
 module _ (e : ℕ) where
-  by-index : e < 0x8000 → (e % 2 ≡ 1 → ⊥) → e / 2 % 512 < getD counts (e / 2 ^ 10) 0 → Held e (getD starts (e / 2 ^ 10) 0 + e / 2 % 512)
+  by-index : e < 0x8000 → (e % 2 ≡ 1 → ⊥) → e / 2 % 512 < countOf (e / 2 ^ 10) → Held e (startOf (e / 2 ^ 10) + e / 2 % 512)
   by-index small even counted =
       let g = e / 2 ^ 10 in
       let i = e / 2 % 512 in
@@ -79,10 +77,10 @@ module _ (e : ℕ) where
   -- 154, or the place where the table has it
   outcome : (lookup e ≡ 154) ⊎ Held e (lookup e)
   unfolding lookup
-  outcome = go (eqb e 0x482E) refl (leb 0x8000 e) refl (eqb (e % 2) 1) refl (leb (getD counts (e / 2 ^ 10) 0) (e / 2 % 512)) refl
+  outcome = go (eqb e 0x482E) refl (leb 0x8000 e) refl (eqb (e % 2) 1) refl (leb (countOf (e / 2 ^ 10)) (e / 2 % 512)) refl
     where
       go : (p : Bool) → eqb e 0x482E ≡ p → (q : Bool) → leb 0x8000 e ≡ q → (r : Bool) → eqb (e % 2) 1 ≡ r
-          → (s : Bool) → leb (getD counts (e / 2 ^ 10) 0) (e / 2 % 512) ≡ s → (answer e p q r s ≡ 154) ⊎ Held e (answer e p q r s)
+          → (s : Bool) → leb (countOf (e / 2 ^ 10)) (e / 2 % 512) ≡ s → (answer e p q r s ≡ 154) ⊎ Held e (answer e p q r s)
       go true a q b r c s d = inr (special (eqb-true e 0x482E a))
       go false a true b r c s d = inl refl
       go false a false b true c s d = inl refl

@@ -49,12 +49,12 @@ pub fn position(encoding: u64) -> usize
     if encoding % 2 == 1 {
         return 154;
     }
-    let group = (encoding >> 10) as usize;
-    let index = ((encoding >> 1) % 512) as usize;
-    if table::count_of(group) as usize <= index {
+    let group = encoding >> 10;
+    let index = (encoding >> 1) % 512;
+    if table::count_of(group) <= index {
         return 154;
     }
-    table::start_of(group) as usize + index
+    (table::start_of(group) + index) as usize
 }
 
 // The width in bits of the fields of an encoding: bits 13 to 14 (SDM 3D, appendix B). The natural width is 64.

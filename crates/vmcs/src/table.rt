@@ -1,9 +1,7 @@
 // The table of fields: the encodings of the enums of vmcs.rs but VmcsControl16, ascending.
 // Ported from the enums of x86_vcpu src/vmx/vmcs.rs (Copyright 2025 The Axvisor Team, Apache-2.0). Changed: the encodings are one table, and VmcsControl16 is left out.
 ghost use mathlib.Core.Path.{_≡_};
-ghost use Prim.Native.Nat.{_<_};
-ghost use lib.ListN.{getD};
-ghost use Rattle.vmcs.specs.Lookup.{starts, counts};
+ghost use Rattle.vmcs.specs.Lookup.{startOf, countOf};
 ghost use Rattle.vmcs.specs.Named.{encodings, placesNamed};
 use crate::names::VmcsControl32;
 use crate::names::VmcsControl64;
@@ -184,24 +182,49 @@ pub fn table() -> [u64; 154]
     ENCODINGS
 }
 
-// The place of the first field of a width and kind, by bits 10 to 14 of the encoding; 0 where there is none. A byte string is read where it lies; a constant array would be copied first.
-pub fn start_of(group: usize) -> u8
-    requires { ⌜ group < 32 ⌝ }
-    ensures { λ r. ⌜ r ≡ getD starts group 0 ⌝ }
+// The place of the first field of a width and kind, by bits 10 to 14 of the encoding; 0 where there is none.
+pub fn start_of(group: u64) -> u64
+    ensures { λ r. ⌜ r ≡ startOf group ⌝ }
 {
-    let table =
-        b"\x00\x00\x00\x0A\x00\x00\x00\x00\x11\x2B\x2C\x37\x00\x00\x00\x00\x3A\x4C\x54\x6B\x00\x00\x00\x00\x6C\x74\x7A\x8E\x00\x00\x00\x00";
-    table[group]
+    match group {
+        3 => 10,
+        8 => 17,
+        9 => 43,
+        10 => 44,
+        11 => 55,
+        16 => 58,
+        17 => 76,
+        18 => 84,
+        19 => 107,
+        24 => 108,
+        25 => 116,
+        26 => 122,
+        27 => 142,
+        _ => 0,
+    }
 }
 
-// How many fields a width and kind has, up to the first index that no field has. A byte string is read where it lies; a constant array would be copied first.
-pub fn count_of(group: usize) -> u8
-    requires { ⌜ group < 32 ⌝ }
-    ensures { λ r. ⌜ r ≡ getD counts group 0 ⌝ }
+// How many fields a width and kind has, up to the first index that no field has.
+pub fn count_of(group: u64) -> u64
+    ensures { λ r. ⌜ r ≡ countOf group ⌝ }
 {
-    let table =
-        b"\x00\x00\x0A\x07\x00\x00\x00\x00\x1A\x01\x0B\x03\x00\x00\x00\x00\x12\x08\x16\x01\x00\x00\x00\x00\x08\x06\x14\x0C\x00\x00\x00\x00";
-    table[group]
+    match group {
+        2 => 10,
+        3 => 7,
+        8 => 26,
+        9 => 1,
+        10 => 11,
+        11 => 3,
+        16 => 18,
+        17 => 8,
+        18 => 22,
+        19 => 1,
+        24 => 8,
+        25 => 6,
+        26 => 20,
+        27 => 12,
+        _ => 0,
+    }
 }
 
 const PLACES: [usize; 154] = [

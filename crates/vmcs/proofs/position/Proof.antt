@@ -4,7 +4,7 @@ use native.Mathlib.Omega.{arith}
 use borrow.Author.Needs.{needs}
 use Rattle.bits.proofs.Tests.{tests}
 use Rattle.vmcs.specs.Lookup.{lookup}
-use Rattle.vmcs.proofs.Lookup.{start-small, count-small, lookup-right}
+use Rattle.vmcs.proofs.Lookup.{start-small, lookup-right}
 use Rattle.vmcs.proofs.position.Statement.{statement}
 use Rattle.vmcs.proofs.position.Tie as tie
 
@@ -19,10 +19,8 @@ position-spec =
     (λ c. rw (← (lookup-right (c .before .args .encoding))) (search tests))
     (λ c. rw (← (lookup-right (c .before .before .args .encoding))) (search tests))
     (λ c. rw (← (lookup-right (c .before .before .before .args .encoding))) (search tests))
-    (λ c κs. group c)
-    (λ c. record { fits = omega (arith, c .count-of .ensures, count-small _ (group (c .before))) })
+    (λ c κs. search needs)
     (λ c. rw (← (lookup-right (c .before .before .before .before .before .args .encoding))) (search (tests, ← c .before .count-of .ensures)))
-    (λ c κs. group (c .before .before))
-    (λ c. record { fits = omega (arith, c .start-of .ensures, start-small _ (group (c .before .before .before))) })
+    (λ c κs. search needs)
     (λ c. record { fits = omega (arith, c .start-of .ensures, start-small _ (group (c .before .before .before))) })
     (λ c. rw (← (lookup-right (c .before .before .before .before .before .before .args .encoding)), c .start-of .ensures) (search (tests, ← c .before .before .count-of .ensures))))

@@ -3,7 +3,7 @@
 
 Vectors: the types of document 01, "Events", as a list written out here. Fields: those of the manual (tools/sdm.py) but the 16-bit control
 fields, which document 01's table leaves out, with kind (control 0, read-only 1, guest 2, host 3), width, and place among the fields of its width
-in ascending order, and how many they are; nothing is read from the Rust.
+in ascending order, and how many they are. Exit reasons: those of the manual. Nothing is read from the Rust.
 """
 import collections
 import sdm
@@ -21,3 +21,5 @@ for encoding, kind, width, *_ in fields:
     print("%04x" % encoding, kind, width, seen[group])
     seen[group] += 1
 print(len(fields), "encodings are read")
+for number, *_ in sorted(sdm.EXIT_REASONS):
+    print("reason", number)

@@ -1,5 +1,5 @@
 // Prints the manual's tables as the core has them: for each vector its interruption type, whether it carries an error code and whether its
-// type is soft; then each encoding of the table that a read accepts, with its kind, its width in bits and its place; and how many encodings a read accepts.
+// type is soft; then each encoding of the table that a read accepts, with its kind, its width in bits and its place; how many encodings a read accepts; and the exit reasons that have a name.
 use libc::STDOUT_FILENO;
 use vmcs::FieldAnswer;
 
@@ -86,8 +86,21 @@ fn print_vectors() {
     print_vector(255);
 }
 
+// The basic exit reasons that have a name.
+fn print_reasons() {
+    let reasons = definitions::exit_reason::exit_reasons();
+    let mut i: usize = 0;
+    while i < 67 {
+        io::write_all(STDOUT_FILENO, b"reason ");
+        io::print_decimal(STDOUT_FILENO, reasons[i] as u64);
+        io::write_all(STDOUT_FILENO, b"\n");
+        i += 1;
+    }
+}
+
 fn main() {
     print_vectors();
     print_table();
     print_accepted();
+    print_reasons();
 }

@@ -489,15 +489,15 @@ uint32_t vcpu_set_msr_intercept_of_range(uint8_t *frame, size_t length, uint32_t
 
 /* ---- Stack ----
  * The bytes of stack that each call needs at most: those below the caller's stack pointer, the return address and the red zone among them, the caller's
- * arguments not. Measured over accepted and refused calls (tests/c/stack.c) and rounded up to a multiple of 64. The host's memcpy, memmove and
+ * arguments not. Measured over accepted and refused calls (tests/c/stack.c) and rounded up to a multiple of 64, with some to spare. The host's memcpy, memmove and
  * memset are in it with their return address alone.
  */
 #define VCPU_STACK(F)                       \
     F(vcpu_new, 64)                         \
-    F(vcpu_setup, 1216)                     \
+    F(vcpu_setup, 1280)                     \
     F(vcpu_queue_event, 64)                 \
     F(vcpu_inject_interrupt, 64)            \
-    F(vcpu_entry, 128)                      \
+    F(vcpu_entry, 192)                      \
     F(vcpu_exit_report, 448)                \
     F(vcpu_apic_value, 64)                  \
     F(vcpu_read_field, 128)                 \
@@ -510,8 +510,8 @@ uint32_t vcpu_set_msr_intercept_of_range(uint8_t *frame, size_t length, uint32_t
     F(vcpu_gla2gva, 64)                     \
     F(vcpu_set_control, 64)                 \
     F(vcpu_set_io_intercept_of_range, 128)  \
-    F(vcpu_set_read_intercept, 64)          \
-    F(vcpu_set_write_intercept, 64)         \
+    F(vcpu_set_read_intercept, 128)         \
+    F(vcpu_set_write_intercept, 128)        \
     F(vcpu_set_msr_intercept_of_range, 128)
 
 #ifdef __cplusplus

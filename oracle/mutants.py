@@ -4,8 +4,8 @@
 usage: oracle/mutants.py [--cases N] [--only TEXT]
 
 The crates are turned to Rust by tools/strip.py. A mutation is a text, found wherever in the library crates it stands, and what takes its place. A mutant
-is run by every program that replays lists of the original's answers and depends on the changed crate, and by the differential run where the exported
-functions depend on it.
+is run by every program that depends on the changed crate and replays lists of the original's answers or has no input, and by the differential run where
+the exported functions depend on it.
 
 It prints a table in Markdown. Exit status: 0 if every mutant is noticed or its survival is explained in mutations.py, and every
 mutation applies, its text standing in the library crates exactly once; 3 if the original can't be built; else 1. With --only, the mutations whose file or
@@ -65,11 +65,13 @@ def dependants(crates, name):
 
 
 class Replay:
-    """A program of the repository that replays lists. Where it notices a mutant, `said` names the list too."""
+    """A program of the repository that replays lists, or that has no input. Where it notices a mutant, `said` names the list too."""
 
     def __init__(self, name, folder):
         self.name = self.said = name
-        self.input, self.expected = (folder / "stdin").read_bytes(), (folder / "stdout").read_bytes()
+        lists = folder / "stdin"
+        self.input = lists.read_bytes() if lists.is_file() else b""
+        self.expected = (folder / "stdout").read_bytes()
 
     def notices(self):
         try:
@@ -77,7 +79,7 @@ class Replay:
         except subprocess.TimeoutExpired:
             self.said = self.name
             return True
-        self.said = f"{self.name}: {self.first_differing_list(done.stdout)}"
+        self.said = f"{self.name}: {self.first_differing_list(done.stdout)}" if self.input else self.name
         return done.returncode != 0 or done.stdout != self.expected
 
     def first_differing_list(self, output):
@@ -92,11 +94,14 @@ class Replay:
 
 
 def replays(crates):
-    """The programs whose input is lists."""
+    """The programs whose input is lists, and those that have none."""
     found = {}
     for name in crates:
         folder = REPOSITORY / "crates" / name
-        if (folder / "stdin").is_file() and LIST_MARK in (folder / "stdin").read_bytes().split(b"\n")[0]:
+        lists = folder / "stdin"
+        if not (folder / "stdout").is_file() or (folder / "data").is_dir():
+            continue
+        if not lists.is_file() or LIST_MARK in lists.read_bytes().split(b"\n")[0]:
             found[name] = Replay(name, folder)
     return found
 

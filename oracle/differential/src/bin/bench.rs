@@ -125,8 +125,8 @@ fn median(mut times: Vec<f64>) -> f64 {
 struct Bench {
     port: Port,
     oracle: Oracle,
-    /// The rows that have a goal: name and ratio.
-    goals: Vec<(String, f64)>,
+    /// The rows that have a goal: name, ratio, and the greatest ratio that meets it.
+    goals: Vec<(String, f64, f64)>,
 }
 
 impl Bench {
@@ -153,16 +153,17 @@ impl Bench {
         ratio
     }
 
-    /// A row with a goal.
+    /// A row with a goal: the greatest ratio that meets it.
     fn goal_row(
         &mut self,
+        goal: f64,
         name: &str,
         calls: u64,
         port: impl FnMut(&mut Port, u64) -> u64,
         rust: impl FnMut(&mut VmxVcpu, u64) -> u64,
     ) {
         let ratio = self.row(name, calls, port, rust);
-        self.goals.push((name.to_string(), ratio));
+        self.goals.push((name.to_string(), ratio, goal));
     }
 
     /// A row of the port alone.
@@ -202,6 +203,7 @@ fn leaves(bench: &mut Bench) {
     bench.oracle.bare(|_| access::control_word(0x7F_0000_0016, 0x16, 9, 0)).expect("a word");
     let set_control = archive::vcpu_set_control().expect("the function");
     bench.goal_row(
+        1.0,
         "control word",
         10_000,
         |_, i| {
@@ -281,7 +283,7 @@ fn setup(bench: &mut Bench, setup: &Setup) {
     assert!(bench.port.record == record::image(&bench.oracle, &reference), "setup");
     let (entry, root) = (setup.entry, setup.ept_root);
     let rust = move |vcpu: &mut VmxVcpu, _| access::setup(vcpu, entry, root).is_ok() as u64;
-    bench.goal_row("setup", 1000, |port, _| port.set_up() as u64, rust);
+    bench.goal_row(1.0, "setup", 1000, |port, _| port.set_up() as u64, rust);
     let machine = bench.oracle.machine();
     let found = |_| SETUP_MSRS.iter().map(|&msr| machine.msr(black_box(msr))).fold(0, u64::wrapping_add);
     let times = (0..BATCHES as u64).map(|k| batch(1000, 1000 * k, found)).collect();
@@ -309,6 +311,7 @@ fn events_and_entries(bench: &mut Bench) {
     bench.port.waiting(0);
     bench.oracle.bare(|vcpu| access::events_mut(vcpu).clear());
     bench.goal_row(
+        1.5,
         "event: queued, and its word written by an entry",
         2000,
         |port, i| (port.queue(14, i as u32) + port.enter(i)) as u64,
@@ -357,9 +360,10 @@ fn reports(bench: &mut Bench) {
     for (name, change) in &REPORTS[..3] {
         bench.prepare_report(usual_report(*change));
         let name = format!("entry + report: {name}");
-        bench.goal_row(&name, 2000, |port, i| (port.enter(i) + port.report()) as u64, |vcpu, _| run(vcpu));
+        bench.goal_row(1.0, &name, 2000, |port, i| (port.enter(i) + port.report()) as u64, |vcpu, _| run(vcpu));
     }
     bench.goal_row(
+        0.7,
         "event queued + entry + report: move to CR0",
         2000,
         |port, i| (port.queue(14, i as u32) + port.enter(i) + port.report()) as u64,
@@ -371,14 +375,16 @@ fn reports(bench: &mut Bench) {
 }
 
 fn accesses(bench: &mut Bench) {
-    bench.row("read a field", 10_000, |port, _| port.field(0x681E), |_, _| access::read_rip().unwrap_or(0) as u64);
-    bench.row(
+    bench.goal_row(1.5, "read a field", 10_000, |port, _| port.field(0x681E), |_, _| access::read_rip().unwrap_or(0) as u64);
+    bench.goal_row(
+        1.5,
         "write a field",
         10_000,
         |port, i| port!(vcpu_write_field(port.record.as_mut_ptr(), LENGTH, 0x681E, i)) as u64,
         |_, i| access::write_rip(i as usize).is_ok() as u64,
     );
-    bench.row(
+    bench.goal_row(
+        1.5,
         "read a register",
         10_000,
         |port, i| {
@@ -387,7 +393,8 @@ fn accesses(bench: &mut Bench) {
         },
         |vcpu, i| access::get_register(vcpu, i as u8 & 3),
     );
-    bench.row(
+    bench.goal_row(
+        1.5,
         "write a register",
         10_000,
         |port, i| port!(vcpu_set_reg_of_index(port.record.as_mut_ptr(), LENGTH, i & 3, i)) as u64,
@@ -520,8 +527,8 @@ fn main() {
     accesses(&mut bench);
     readings(&mut bench);
     refusals(&mut bench);
-    println!("\nThe goal is a ratio of at most 1.0:");
-    for (name, ratio) in &bench.goals {
-        println!("- {name}: {ratio:.2}{}", if *ratio <= 1.0 { "" } else { ", missed" });
+    println!("\nGoals:");
+    for (name, ratio, goal) in &bench.goals {
+        println!("- {name}: {ratio:.2}, at most {goal:.1}{}", if ratio <= goal { "" } else { ": missed" });
     }
 }

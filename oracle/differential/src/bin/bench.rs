@@ -375,7 +375,13 @@ fn reports(bench: &mut Bench) {
 }
 
 fn accesses(bench: &mut Bench) {
-    bench.goal_row(1.5, "read a field", 10_000, |port, _| port.field(0x681E), |_, _| access::read_rip().unwrap_or(0) as u64);
+    bench.goal_row(
+        1.5,
+        "read a field",
+        10_000,
+        |port, _| port.field(0x681E),
+        |_, _| access::read_rip().unwrap_or(0) as u64,
+    );
     bench.goal_row(
         1.5,
         "write a field",

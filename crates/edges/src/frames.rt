@@ -1,12 +1,14 @@
 // Edits of the intercept frames.
+use structs::FRAME_SIZE;
+
 fn wide(x: u8) -> u64 {
     x as u64
 }
 
 // Byte 192 of A has port 0x604 in bit 4, byte 4,095 of B has port 65,535 in bit 7.
 fn port(base: u32, count: u32, intercept: u8) {
-    let mut a = [0u8; 4096];
-    let mut b = [0u8; 4096];
+    let mut a = [0u8; FRAME_SIZE];
+    let mut b = [0u8; FRAME_SIZE];
     let refusal = x86_vcpu::vcpu_set_io_intercept_of_range(&mut a, &mut b, base, count, intercept);
     replay::print_call(
         b"set_io_intercept_of_range",
@@ -30,21 +32,21 @@ pub fn ports() {
 
 // Byte 1,040 has the read of MSR 0xC0000080 in bit 0, byte 3,088 its write.
 fn read(msr: u32, intercept: u8) {
-    let mut frame = [0u8; 4096];
+    let mut frame = [0u8; FRAME_SIZE];
     let refusal = x86_vcpu::vcpu_set_read_intercept(&mut frame, msr, intercept);
     replay::print_call(b"set_read_intercept", &[msr as u64, intercept as u64]);
     replay::print_answer(refusal, &[wide(frame[1040]), wide(frame[3088])]);
 }
 
 fn write(msr: u32, intercept: u8) {
-    let mut frame = [0u8; 4096];
+    let mut frame = [0u8; FRAME_SIZE];
     let refusal = x86_vcpu::vcpu_set_write_intercept(&mut frame, msr, intercept);
     replay::print_call(b"set_write_intercept", &[msr as u64, intercept as u64]);
     replay::print_answer(refusal, &[wide(frame[1040]), wide(frame[3088])]);
 }
 
 fn both(msr: u32, intercept: u8) {
-    let mut frame = [0u8; 4096];
+    let mut frame = [0u8; FRAME_SIZE];
     let refusal = x86_vcpu::vcpu_set_msr_intercept_of_range(&mut frame, msr, intercept);
     replay::print_call(
         b"set_msr_intercept_of_range",

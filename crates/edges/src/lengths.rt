@@ -1,5 +1,6 @@
 // Lent lengths: a byte less and a byte more than the right one.
 use record::Record;
+use structs::FRAME_SIZE;
 
 fn new_refusal(bytes: &mut [u8], a: &mut [u8], b: &mut [u8], msr: &mut [u8]) -> u32 {
     x86_vcpu::session::vcpu_new(bytes, a, b, msr)
@@ -22,9 +23,9 @@ fn new() {
     let mut short = [0u8; Record::LENGTH - 1];
     let mut bytes = [0u8; Record::LENGTH];
     let mut long = [0u8; Record::LENGTH + 1];
-    let mut a = [0u8; 4096];
-    let mut b = [0u8; 4096];
-    let mut msr = [0u8; 4096];
+    let mut a = [0u8; FRAME_SIZE];
+    let mut b = [0u8; FRAME_SIZE];
+    let mut msr = [0u8; FRAME_SIZE];
     print_length(
         b"new, record of",
         short.len() as u64,
@@ -45,8 +46,8 @@ fn new() {
 // A frame of a wrong length, in each place.
 fn wrong_new(frame: &mut [u8], length: u64) {
     let mut bytes = [0u8; Record::LENGTH];
-    let mut a = [0u8; 4096];
-    let mut b = [0u8; 4096];
+    let mut a = [0u8; FRAME_SIZE];
+    let mut b = [0u8; FRAME_SIZE];
     print_length(
         b"new, A of",
         length,
@@ -65,7 +66,7 @@ fn wrong_new(frame: &mut [u8], length: u64) {
 }
 
 fn wrong_edits(frame: &mut [u8], length: u64) {
-    let mut a = [0u8; 4096];
+    let mut a = [0u8; FRAME_SIZE];
     print_length(
         b"set_io_intercept_of_range, A of",
         length,

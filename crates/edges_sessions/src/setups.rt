@@ -1,6 +1,7 @@
 // Setup.
 use blocks::setup::Layout;
 use record::words;
+use structs::FRAME_SIZE;
 
 // Stores a word of the block.
 fn put(block: &mut [u8; Layout::LENGTH], at: usize, value: u64) {
@@ -35,9 +36,9 @@ fn usual() -> [u8; Layout::LENGTH] {
 // Sets a session up in a phase, and prints its phase.
 fn print_setup(block: &[u8; Layout::LENGTH], phase: u8) {
     let mut bytes = crate::in_phase(phase);
-    let mut a = [0u8; 4096];
-    let mut b = [0u8; 4096];
-    let mut msr = [0u8; 4096];
+    let mut a = [0u8; FRAME_SIZE];
+    let mut b = [0u8; FRAME_SIZE];
+    let mut msr = [0u8; FRAME_SIZE];
     let refusal = x86_vcpu::setup::vcpu_setup(&mut bytes, block, &mut a, &mut b, &mut msr);
     replay::print_answer(refusal, &[crate::phase_of(&bytes)]);
 }

@@ -8,6 +8,7 @@ use libc::STDIN_FILENO;
 use libc::STDOUT_FILENO;
 use record::Record;
 use record::words;
+use structs::FRAME_SIZE;
 use vcpu_session::Phase;
 
 // The lists, by the oracle's names.
@@ -39,9 +40,9 @@ fn list_of(text: &[u8]) -> List {
 // The record of a new session.
 fn new_record() -> [u8; Record::LENGTH] {
     let mut bytes = [0xFFu8; Record::LENGTH];
-    let mut a = [0u8; 4096];
-    let mut b = [0u8; 4096];
-    let mut msr = [0u8; 4096];
+    let mut a = [0u8; FRAME_SIZE];
+    let mut b = [0u8; FRAME_SIZE];
+    let mut msr = [0u8; FRAME_SIZE];
     x86_vcpu::session::vcpu_new(&mut bytes, &mut a, &mut b, &mut msr);
     bytes
 }

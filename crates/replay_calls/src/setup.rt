@@ -1,6 +1,7 @@
 // Setup: each case changes numbers of setup's arguments and sets up a new session. The five control words, a digest of the record and the sum of the frames'
 // digests are printed.
 use blocks::setup::Layout;
+use structs::FRAME_SIZE;
 
 const PINBASED_EXEC_CONTROLS: u64 = 0x4000;
 
@@ -61,7 +62,7 @@ const OFFSETS: [usize; 41] = [
     Layout::LENGTH,
 ];
 
-fn sum_of_digests(a: &[u8; 4096], b: &[u8; 4096], msr: &[u8; 4096]) -> u64 {
+fn sum_of_digests(a: &[u8; FRAME_SIZE], b: &[u8; FRAME_SIZE], msr: &[u8; FRAME_SIZE]) -> u64 {
     let first = replay::digest_of(a) % 0x1_0000_0000;
     let second = replay::digest_of(b) % 0x1_0000_0000;
     let third = replay::digest_of(msr) % 0x1_0000_0000;
@@ -72,9 +73,9 @@ fn sum_of_digests(a: &[u8; 4096], b: &[u8; 4096], msr: &[u8; 4096]) -> u64 {
 pub fn answer(n: [u64; 46]) {
     let fill = byte(n[41]);
     let mut bytes = crate::new_record();
-    let mut a = [fill; 4096];
-    let mut b = [fill; 4096];
-    let mut msr = [fill; 4096];
+    let mut a = [fill; FRAME_SIZE];
+    let mut b = [fill; FRAME_SIZE];
+    let mut msr = [fill; FRAME_SIZE];
     let mut block = [0u8; Layout::LENGTH];
     crate::put_all(&mut block, &OFFSETS, n);
     let refusal = x86_vcpu::setup::vcpu_setup(&mut bytes, &block, &mut a, &mut b, &mut msr);

@@ -5,6 +5,7 @@ mod readings;
 use libc::STDIN_FILENO;
 use libc::STDOUT_FILENO;
 use record::Record;
+use structs::FRAME_SIZE;
 
 // The lists, by the oracle's names.
 enum List {
@@ -103,7 +104,7 @@ fn encodings(n: [u64; 8]) {
 
 // ---- Edits of the intercept frames, each on what the last left.
 
-fn print_digest(refusal: u32, frame: &[u8; 4096]) {
+fn print_digest(refusal: u32, frame: &[u8; FRAME_SIZE]) {
     if refusal == 0 {
         replay::print_numbers(&[replay::digest_of(frame)]);
     } else {
@@ -115,7 +116,7 @@ fn yes_no(x: u64) -> u8 {
     (x % 0x100) as u8
 }
 
-fn io_intercepts(a: &mut [u8; 4096], b: &mut [u8; 4096], n: [u64; 8]) {
+fn io_intercepts(a: &mut [u8; FRAME_SIZE], b: &mut [u8; FRAME_SIZE], n: [u64; 8]) {
     let port_base = bits::low(n[0]);
     let count = bits::low(n[1]);
     let refusal = x86_vcpu::vcpu_set_io_intercept_of_range(a, b, port_base, count, yes_no(n[2]));
@@ -126,7 +127,7 @@ fn io_intercepts(a: &mut [u8; 4096], b: &mut [u8; 4096], n: [u64; 8]) {
     }
 }
 
-fn edit_msr(frame: &mut [u8; 4096], access: u64, msr: u32, intercept: u8) -> u32 {
+fn edit_msr(frame: &mut [u8; FRAME_SIZE], access: u64, msr: u32, intercept: u8) -> u32 {
     if access == 0 {
         return x86_vcpu::vcpu_set_read_intercept(frame, msr, intercept);
     }
@@ -136,7 +137,7 @@ fn edit_msr(frame: &mut [u8; 4096], access: u64, msr: u32, intercept: u8) -> u32
     x86_vcpu::vcpu_set_msr_intercept_of_range(frame, msr, intercept)
 }
 
-fn msr_intercepts(frame: &mut [u8; 4096], n: [u64; 8]) {
+fn msr_intercepts(frame: &mut [u8; FRAME_SIZE], n: [u64; 8]) {
     let refusal = edit_msr(frame, n[0], bits::low(n[1]), yes_no(n[2]));
     print_digest(refusal, frame);
 }
@@ -144,7 +145,7 @@ fn msr_intercepts(frame: &mut [u8; 4096], n: [u64; 8]) {
 // ---- Every list.
 
 // Prints the answer to one case. The frames are what the lists of edits go on with from case to case.
-fn answer(list: List, n: [u64; 8], a: &mut [u8; 4096], b: &mut [u8; 4096]) {
+fn answer(list: List, n: [u64; 8], a: &mut [u8; FRAME_SIZE], b: &mut [u8; FRAME_SIZE]) {
     match list {
         List::Unknown => {
             io::write_all(STDOUT_FILENO, b"no such list\n");
@@ -162,15 +163,15 @@ fn answer(list: List, n: [u64; 8], a: &mut [u8; 4096], b: &mut [u8; 4096]) {
 // A comment starts a list, with everything anew.
 fn answer_all(text: &[u8]) {
     let mut list = List::Unknown;
-    let mut a = [0u8; 4096];
-    let mut b = [0u8; 4096];
+    let mut a = [0u8; FRAME_SIZE];
+    let mut b = [0u8; FRAME_SIZE];
     let mut at = 0;
     while at < text.len() {
         if text[at] == b'#' {
             let rest = &text[at..];
             list = list_of(rest);
-            a = [0; 4096];
-            b = [0; 4096];
+            a = [0; FRAME_SIZE];
+            b = [0; FRAME_SIZE];
             at += replay::print_comment(rest);
         } else {
             let case = replay::case_at(text, at);

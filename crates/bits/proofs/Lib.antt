@@ -4,3 +4,4 @@ pub mod WordLaws
 pub mod WithBit
 pub mod AllBelow
 pub mod LittleEndianLaws
+pub mod Tells

@@ -7,9 +7,9 @@ use native.Mathlib.Omega.{arith}
 use lib.Dec.{eqb}
 use lib.ListN.{length}
 use Rattle.record.specs.Record as Record
-use Rattle.x86_vcpu.specs.Records.{EntryCall, FramesCall, newCall}
+use Rattle.call_specs.specs.Records.{EntryCall, FramesCall, newCall}
 use Rattle.vcpu_events.specs.declared.Injection.the-variants.{Empty}
-use Rattle.x86_vcpu.specs.ReportCall.{ReportCall}
+use Rattle.call_specs.specs.ReportCall.{ReportCall}
 use Rattle.calls.specs.Calls.{plain, framed, newRecord, isRefused}
 use Rattle.calls.specs.Contracts.{Contracts}
 use Rattle.calls.proofs.Choices.{cond-all}

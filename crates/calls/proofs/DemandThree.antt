@@ -27,7 +27,8 @@ use Rattle.vcpu_setup.specs.Capability.{capabilitiesOf}
 use Rattle.vcpu_report.specs.Invariant.{AllPermitted}
 use Rattle.blocks.specs.SetupBlock.{msrsOf}
 use Rattle.record.specs.Codec.{sessionOf}
-use Rattle.calls.specs.Reference.{types, codes, Call, setup, queueEvent, injectInterrupt, entry, exitReport, apicValue, fieldWrite, registerWrite, WellTyped, AllWellTyped, Event, injectedBy, leftBy, queuedBy, start, Reference, Guarded, validBy, effect, choose, isHeld, answerOn, referenceStep, referenceAnswer, referenceAfter, referenceAnswers, Refuses, rules}
+use Rattle.bits.specs.Refuses.{Refuses}
+use Rattle.calls.specs.Reference.{types, codes, Call, setup, queueEvent, injectInterrupt, entry, exitReport, apicValue, fieldWrite, registerWrite, WellTyped, AllWellTyped, Event, injectedBy, leftBy, queuedBy, start, Reference, Guarded, validBy, effect, choose, isHeld, answerOn, referenceStep, referenceAnswer, referenceAfter, referenceAnswers, rules}
 use Rattle.calls.specs.Calls as Calls
 use Rattle.calls.specs.Calls.{stepOf, newRecord, after, historyOf, isRefused, Logged, fed, queuedAt, queued, injectedAt, entries, holds, written, eventOf, waitingOf, viewOf, guardedOf}
 use Rattle.calls.specs.DemandThree.{Answers, Wrote, WaitLaw, isWritten, Unwritten, judgedFields, WholeList}

@@ -47,8 +47,8 @@ use Rattle.record.specs.Fitting.{Fitting, VmcsFits, QueueFits}
 use Rattle.vcpu_report.proofs.ReportLaws.{report-laws}
 use Rattle.blocks.specs.ReportBlock as Report
 use Rattle.blocks.specs.ReportBlock.{reportOf}
-use Rattle.x86_vcpu.specs.Records.{queueStep}
-use Rattle.x86_vcpu.proofs.SetupCalls.{keeps-setup}
+use Rattle.call_specs.specs.Records.{queueStep}
+use Rattle.call_specs.proofs.SetupCalls.{keeps-setup}
 use Rattle.calls.proofs.Keeps.{keeps-queue-step, keeps-interrupt, keeps-field, keeps-register, keeps-apic, keeps-entry}
 use Rattle.calls.specs.Reference.{Call, setup, queueEvent, injectInterrupt, entry, exitReport, apicValue, fieldWrite, registerWrite, WellTyped}
 use Rattle.calls.proofs.Choices.{cond-all}

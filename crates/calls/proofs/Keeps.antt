@@ -18,7 +18,7 @@ use Rattle.vcpu_events.specs.declared.Injection.{Injection}
 use Rattle.vcpu_events.specs.declared.Injection.the-variants.{Empty, Held, Written}
 use Rattle.vcpu_events.specs.declared.Event.{Event}
 use Rattle.vcpu_events.specs.Access.{writeField, setRegister, apicValue}
-use Rattle.x86_vcpu.specs.Records.{queueStep}
+use Rattle.call_specs.specs.Records.{queueStep}
 
 -- a test that refuses, before the rest
 test : {s : Session} (b : Bool) (n : ℕ) (r : Answered) → Lawful s → (b ≡ false → Lawful (r .session)) → Lawful (cond b (answered n s) r .session)

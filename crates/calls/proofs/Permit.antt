@@ -44,7 +44,7 @@ use Rattle.vcpu_setup.specs.declared.CapabilityMsrs.{CapabilityMsrs}
 use Rattle.vcpu_setup.specs.Laws.{Typed, SetUp}
 use Rattle.vcpu_setup.proofs.SetupLaws.{passed, setup-number, set-up}
 use Rattle.blocks.specs.SetupBlock.{argumentsOf, msrsOf}
-use Rattle.x86_vcpu.specs.Records.{queueStep}
+use Rattle.call_specs.specs.Records.{queueStep}
 use Rattle.vcpu_exit.specs.declared.Report.{Report}
 use Rattle.vcpu_report.specs.ExitReport as Exit
 use Rattle.blocks.specs.ReportBlock as Report

@@ -25,14 +25,14 @@ use Rattle.record.specs.Codec.{sessionOf, encodeOf, acceptedOf, Encoded}
 use Rattle.record.specs.Fitting.{Fitting}
 use Rattle.record.specs.declared.Decoded.{Decoded}
 use Rattle.record.proofs.RoundTrip.{lawful-accepted, accepted-decoded, refused-decoded, decode-encode, faithful}
-use Rattle.x86_vcpu.specs.Records.{callOf, queueStep, EntryCall, entryCall, entryAnswer, FramesCall, framesCall}
+use Rattle.call_specs.specs.Records.{callOf, queueStep, EntryCall, entryCall, entryAnswer, FramesCall, framesCall}
 use Rattle.vcpu_answers.specs.Answer.{answerWords}
 use Rattle.vcpu_report.specs.ExitReport as Exit
 use Rattle.vcpu_report.specs.declared.Reported.{Reported}
 use Rattle.blocks.specs.ReportBlock as Report
 use Rattle.blocks.specs.ReportBlock.{reportOf}
-use Rattle.x86_vcpu.specs.ReportCall.{ReportCall, reportAnswer, reportAccepts, reportCall}
-use Rattle.x86_vcpu.specs.SetupCall.{setupAccepts, setupCall}
+use Rattle.call_specs.specs.ReportCall.{ReportCall, reportAnswer, reportAccepts, reportCall}
+use Rattle.call_specs.specs.SetupCall.{setupAccepts, setupCall}
 use Rattle.calls.specs.Reference.{Call, setup, queueEvent, injectInterrupt, entry, exitReport, apicValue, fieldWrite, registerWrite, WellTyped, AllWellTyped}
 use Rattle.calls.specs.Calls.{reported, Outcome, plain, framed, numbered, entered, stepOf, waitingOf, after, historyOf, isRefused}
 use Rattle.calls.proofs.Choices.{cond-all, impossible}

@@ -14,6 +14,8 @@ use Rattle.bits.specs.Words.{bit}
 use Rattle.bits.proofs.AllBelow.{at}
 use Rattle.bits.proofs.BitLaws.{bit-and, same-bits}
 use Rattle.bits.proofs.WordLaws.{is-true}
+use Rattle.bits.specs.Refuses.{Rule, by, Refuses}
+use Rattle.bits.proofs.Tells.{Tells, tells-eq, tells-leb, tells-ltb, tells-on, tells-off, tells-and, tells-or, tells-not, tells-as, tells-is, rung, ladder}
 use Rattle.regs.specs.Registers.{listOf}
 use Rattle.definitions.specs.Interruption.{typeNumber, typeNumbered, typeOf}
 use Rattle.vmcs.specs.Efer.{isLongMode, lacksIa32e, updateEfer}
@@ -28,71 +30,11 @@ use Rattle.vcpu_exit.specs.Reading.{isApic, registerOf, movedValue, isMoveTo, t
 use Rattle.vcpu_exit.specs.Refusal.{unknownReason, ownedBitsDiffer, noInterrupt, otherAccess, otherXcr, eferRefusal, entryPair, exitRefusal, reportRefusal}
 use Rattle.vcpu_exit.specs.declared.Report.{Report}
 use Rattle.vcpu_report.specs.ExitReport.{phaseAfter}
-use Rattle.calls.specs.Reference.{choose, both, either, Event, basicReason, ecxOf, NamesApic, namesApic, waits, Rule, by, Refuses, Agree, MovesTo, movedBy, advance, UnknownReason, SetsIa32e, exitRules, reportRules}
+use Rattle.calls.specs.Reference.{choose, both, either, Event, basicReason, ecxOf, NamesApic, namesApic, waits, Agree, MovesTo, movedBy, advance, UnknownReason, SetsIa32e, exitRules, reportRules}
 use Rattle.calls.specs.Calls.{viewOf, guardedOf}
 use Rattle.calls.proofs.Choices.{chosen}
 
 -- ---- tests that tell
-
--- the test is true exactly where C holds
-pub record Tells (t : Bool) (C : Type 0) : Type 0 where
-  pub yes-so : t ≡ true → C
-  pub not-so : t ≡ false → C → ⊥
-
-both-true : (a b : Bool) → (a && b) ≡ true → (a ≡ true) × (b ≡ true)
-both-true true b e = (refl, e)
-both-true false b e = absurd (false≢true e)
-
-one-true : (a b : Bool) → (a || b) ≡ true → (a ≡ true) ⊎ (b ≡ true)
-one-true true b e = inl refl
-one-true false b e = inr e
-
-one-false : (a b : Bool) → (a && b) ≡ false → (a ≡ false) ⊎ (b ≡ false)
-one-false true b e = inr e
-one-false false b e = inl refl
-
-both-false : (a b : Bool) → (a || b) ≡ false → (a ≡ false) × (b ≡ false)
-both-false true b e = absurd (true≢false e)
-both-false false b e = (refl, e)
-
-tells-eq : (a b : ℕ) → Tells (eqb a b) (a ≡ b)
-tells-eq a b = record { yes-so = eqb-true a b; not-so = eqb-false a b }
-
-tells-leb : (a b : ℕ) → Tells (leb a b) (a ≤ b)
-tells-leb a b = record { yes-so = leb-true a b; not-so = λ e h. omega (arith, leb-false a b e) }
-
-tells-ltb : (a b : ℕ) → Tells (ltb a b) (a < b)
-tells-ltb a b = record { yes-so = ltb-true a b; not-so = λ e h. omega (arith, ltb-false a b e) }
-
-tells-on : (b : Bool) → Tells b (b ≡ true)
-tells-on b = record { yes-so = λ e. e; not-so = λ e f. true≢false (sym f ∙ e) }
-
-tells-off : (b : Bool) → Tells (not b) (b ≡ false)
-tells-off b = record { yes-so = not-true b; not-so = λ e f. true≢false (sym (not-false b e) ∙ f) }
-
-tells-and : {s t : Bool} {C D : Type 0} → Tells s C → Tells t D → Tells (s && t) (C × D)
-tells-and {s} {t} p q =
-    record {
-      yes-so = λ e. let x = both-true s t e in (p .yes-so (x .0), q .yes-so (x .1));
-      not-so = λ e c. elim (one-false s t e) [ inl x ↦ p .not-so x (c .0) | inr y ↦ q .not-so y (c .1) ];
-    }
-
-tells-or : {s t : Bool} {C D : Type 0} → Tells s C → Tells t D → Tells (s || t) (C ⊎ D)
-tells-or {s} {t} p q =
-    record {
-      yes-so = λ e. elim (one-true s t e) [ inl x ↦ inl (p .yes-so x) | inr y ↦ inr (q .yes-so y) ];
-      not-so = λ e c. let x = both-false s t e in elim c [ inl a ↦ p .not-so (x .0) a | inr b ↦ q .not-so (x .1) b ];
-    }
-
-tells-not : {t : Bool} {C : Type 0} → Tells t C → Tells (not t) (C → ⊥)
-tells-not {t} p = record { yes-so = λ e. p .not-so (not-true t e); not-so = λ e c. c (p .yes-so (not-false t e)) }
-
-tells-as : {t : Bool} {C D : Type 0} → Tells t C → (C → D) → (D → C) → Tells t D
-tells-as p f g = record { yes-so = λ e. f (p .yes-so e); not-so = λ e d. p .not-so e (g d) }
-
--- the same test
-tells-is : {s t : Bool} {C : Type 0} → s ≡ t → Tells t C → Tells s C
-tells-is e p = record { yes-so = λ x. p .yes-so (sym e ∙ x); not-so = λ x. p .not-so (sym e ∙ x) }
 
 -- a test and a decision of one thing choose alike
 picks : {A C : Type 0} {t : Bool} → Tells t C → (d : Dec C) (x y : A) → cond t x y ≡ choose d x y
@@ -265,10 +207,6 @@ efer-number pair entry r = go (turnsPagingOn r) (isLongMode (r .efer)) (lacksIa3
 
 -- ---- the ladder
 
-rung : (t : Bool) (n m : ℕ) (C : Type 0) (rest : List Rule) → Tells t C → (t ≡ false → Refuses rest m) → Refuses (by n C ∷ rest) (cond t n m)
-rung true n m C rest p w = inl (p .yes-so refl, refl)
-rung false n m C rest p w = inr (p .not-so refl, w refl)
-
 module _ (j : List Event) (s : Session) (r : Report) (l : Lawful s) where
   abbrev pair : Pair
   pair = entryPair (s .capabilities)
@@ -279,41 +217,18 @@ module _ (j : List Event) (s : Session) (r : Report) (l : Lawful s) where
   exit-refuses : Refuses (exitRules (viewOf j s) (guardedOf s) r) (cond (ownedBitsDiffer (s .vmcs) r) 15 (exitRefusal pair entryWord r))
   unfolding exitRefusal
   exit-refuses =
-      let g = guardedOf s in
-      let n = basicReason r in
-      let l8 = by 8 (SetsIa32e r × (bit 9 (pair .allowed1) ≡ false)) ∷ [] in
-      let n8 = eferRefusal pair entryWord r in
-      let l17 = by 17 (2 ^ 64 ≤ r .rip + advance r) ∷ l8 in
-      let n17 : ℕ = cond (pastEnd r) 17 n8 in
-      let l21 = by 21 (n ≡ 44) ∷ l17 in
-      let n21 : ℕ = cond (eqb n 44) 21 n17 in
-      let l19 = by 19 (n ≡ 55) ∷ l21 in
-      let n19 : ℕ = cond (eqb n 55) 19 n21 in
-      let l20 = by 20 ((n ≡ 55) × (ecxOf r ≢ 0)) ∷ l19 in
-      let n20 : ℕ = cond (otherXcr r) 20 n19 in
-      let l18 = by 18 ((n ≡ 28) × (MovesTo 0 r ⊎ MovesTo 4 r → ⊥)) ∷ l20 in
-      let n18 : ℕ = cond (otherAccess r) 18 n20 in
-      let l16 = by 16 ((n ≡ 1) × ((bit 31 (r .interruption) ≡ false) ⊎ (r .interruption / 2 ^ 8 % 8 ≡ 1))) ∷ l18 in
-      let n16 : ℕ = cond (noInterrupt r) 16 n18 in
-      rung (ownedBitsDiffer (s .vmcs) r) 15 n16 _ l16 (differ-tells s r)
-      (λ _. rung (noInterrupt r) 16 n18 _ l18 (interrupt-tells r)
-      (λ _. rung (otherAccess r) 18 n20 _ l20 (access-tells r)
-      (λ _. rung (otherXcr r) 20 n19 _ l19 (xcr-tells r)
-      (λ _. rung (eqb n 55) 19 n21 _ l21 (tells-eq n 55)
-      (λ _. rung (eqb n 44) 21 n17 _ l17 (tells-eq n 44)
-      (λ _. rung (pastEnd r) 17 n8 _ l8 (end-tells r)
-      (λ _. subst (Refuses l8) (sym (efer-number pair entryWord r)) (rung (stuck pair r) 8 0 _ [] (stuck-tells pair r) (λ _. refl)))))))))
+      ladder
+      (rung 15 (differ-tells s r) ∷ rung 16 (interrupt-tells r) ∷ rung 18 (access-tells r) ∷ rung 20 (xcr-tells r) ∷ rung 19 (tells-eq (basicReason r) 55)
+      ∷ rung 21 (tells-eq (basicReason r) 44) ∷ rung 17 (end-tells r) ∷ [])
+      (by 8 (SetsIa32e r × (bit 9 (pair .allowed1) ≡ false)) ∷ []) (eferRefusal pair entryWord r)
+      (subst (Refuses (by 8 (SetsIa32e r × (bit 9 (pair .allowed1) ≡ false)) ∷ [])) (sym (efer-number pair entryWord r))
+      (ladder (rung 8 (stuck-tells pair r) ∷ []) [] 0 refl))
 
   pub report-refuses : Refuses (reportRules (viewOf j s) (guardedOf s) r) (reportRefusal s r)
   unfolding reportRefusal
   report-refuses =
-      let f = bit 31 (r .reason) in
-      let after = cond f [] (exitRules (viewOf j s) (guardedOf s) r) in
-      let number : ℕ = cond f 0 (cond (ownedBitsDiffer (s .vmcs) r) 15 (exitRefusal pair entryWord r)) in
       rw (of-lawful s l)
-      (rung (not (eqb (s .progress .phase) 2)) 1 (cond (unknownReason r) 14 number) _ (by 14 (UnknownReason r) ∷ after)
-      (tells-not (tells-eq (s .progress .phase) 2))
-      (λ _. rung (unknownReason r) 14 number _ after (unknown-tells r) (λ _. ended f)))
+      (ladder (rung 1 (tells-not (tells-eq (s .progress .phase) 2)) ∷ rung 14 (unknown-tells r) ∷ []) _ _ (ended (bit 31 (r .reason))))
     where
       ended : (f : Bool) → Refuses (cond f [] (exitRules (viewOf j s) (guardedOf s) r)) (cond f 0 (cond (ownedBitsDiffer (s .vmcs) r) 15 (exitRefusal pair entryWord r)))
       ended true = refl

@@ -21,7 +21,7 @@ use Rattle.vcpu_report.specs.ExitReport as Exit
 use Rattle.blocks.specs.ReportBlock as Report
 use Rattle.blocks.specs.ReportBlock.{reportOf}
 use Rattle.record.specs.Fitting.{Fitting}
-use Rattle.x86_vcpu.specs.Records.{queueStep}
+use Rattle.call_specs.specs.Records.{queueStep}
 use Rattle.calls.specs.Reference.{Call, setup, queueEvent, injectInterrupt, entry, exitReport, apicValue, fieldWrite, registerWrite}
 use Rattle.calls.specs.Calls.{Outcome, Logged, waitingOf, afterAll, logged, logOf}
 use Rattle.calls.proofs.Fields.{fits-sized}

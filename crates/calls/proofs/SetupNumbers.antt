@@ -21,7 +21,8 @@ use Rattle.vcpu_setup.specs.declared.CapabilityMsrs.{CapabilityMsrs}
 use Rattle.vcpu_setup.specs.declared.Features.{Features}
 use Rattle.blocks.specs.SetupLayout as Layout
 use Rattle.blocks.specs.SetupBlock.{blockAccepted}
-use Rattle.calls.specs.Reference.{Rule, by, Refuses, Buffers, Consistent, wordRules, setupRules}
+use Rattle.bits.specs.Refuses.{Rule, by, Refuses}
+use Rattle.calls.specs.Reference.{Buffers, Consistent, wordRules, setupRules}
 use Rattle.calls.proofs.Choices.{cond-all}
 use Rattle.calls.proofs.Sessions.{hasBuffers}
 

@@ -54,8 +54,9 @@ use Rattle.blocks.specs.ReportLayout as ReportLayout
 use Rattle.blocks.specs.ReportBlock.{reportOf}
 use Rattle.vcpu_report.proofs.ReportLaws.{report-laws}
 use Rattle.blocks.specs.SetupBlock.{argumentsOf, msrsOf, featuresOf}
-use Rattle.x86_vcpu.specs.Records.{queueStep}
-use Rattle.calls.specs.Reference.{choose, Call, setup, queueEvent, injectInterrupt, entry, exitReport, apicValue, fieldWrite, registerWrite, WellTyped, Event, queuedBy, entriesBy, injectedBy, leftBy, heldBy, IsHeld, isHeld, answerOn, validBy, waits, Effect, inPhase, effect, accept, referenceStep, referenceAnswer, by, Refuses, Buffers, reportRules, rules}
+use Rattle.call_specs.specs.Records.{queueStep}
+use Rattle.bits.specs.Refuses.{by, Refuses}
+use Rattle.calls.specs.Reference.{choose, Call, setup, queueEvent, injectInterrupt, entry, exitReport, apicValue, fieldWrite, registerWrite, WellTyped, Event, queuedBy, entriesBy, injectedBy, leftBy, heldBy, IsHeld, isHeld, answerOn, validBy, waits, Effect, inPhase, effect, accept, referenceStep, referenceAnswer, Buffers, reportRules, rules}
 use Rattle.calls.specs.Calls.{Outcome, isRefused, eventOf, eventsOf, waitingOf, viewOf, guardedOf}
 use Rattle.calls.proofs.Choices.{cond-all, impossible, chosen, choose-ap}
 use Rattle.calls.proofs.Events.{events-set, events-long, events-shifted, events-front}

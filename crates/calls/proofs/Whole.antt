@@ -14,7 +14,8 @@ use Rattle.bits.specs.Words.{bit}
 use Rattle.vcpu_session.specs.declared.Session.{Session}
 use Rattle.vcpu_events.specs.declared.Injection.{Injection}
 use Rattle.vcpu_events.specs.declared.Injection.the-variants.{Empty, Held, Written}
-use Rattle.calls.specs.Reference.{choose, Call, setup, queueEvent, injectInterrupt, entry, exitReport, apicValue, fieldWrite, registerWrite, WellTyped, AllWellTyped, Event, queuedBy, entriesBy, injectedBy, leftBy, heldBy, Reference, Guarded, isHeld, answerOn, Effect, effect, referenceStep, referenceAnswer, referenceAfter, referenceAnswers, Refuses, rules}
+use Rattle.bits.specs.Refuses.{Refuses}
+use Rattle.calls.specs.Reference.{choose, Call, setup, queueEvent, injectInterrupt, entry, exitReport, apicValue, fieldWrite, registerWrite, WellTyped, AllWellTyped, Event, queuedBy, entriesBy, injectedBy, leftBy, heldBy, Reference, Guarded, isHeld, answerOn, Effect, effect, referenceStep, referenceAnswer, referenceAfter, referenceAnswers, rules}
 use Rattle.blocks.specs.ReportBlock.{reportOf}
 use Rattle.calls.specs.Calls.{isRefused, Logged, fed, answers, queuedAt, queued, injectedAt, injected, entriesAt, entries, holds, writesField, written, waitingOf, viewOf, guardedOf}
 use Rattle.vcpu_report.proofs.Steps.{neither}

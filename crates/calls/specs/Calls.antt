@@ -21,9 +21,9 @@ use Rattle.vcpu_events.specs.declared.Injection.{Injection}
 use Rattle.vcpu_events.specs.declared.Injection.the-variants.{Empty, Held, Written}
 use Rattle.vcpu_events.specs.Access as Access
 use Rattle.record.specs.Codec.{sessionOf, encodeOf, Encoded}
-use Rattle.x86_vcpu.specs.Records.{callOf, queueStep, EntryCall, entryCall, FramesCall}
-use Rattle.x86_vcpu.specs.SetupCall.{setupCall}
-use Rattle.x86_vcpu.specs.ReportCall.{ReportCall, reportCall}
+use Rattle.call_specs.specs.Records.{callOf, queueStep, EntryCall, entryCall, FramesCall}
+use Rattle.call_specs.specs.SetupCall.{setupCall}
+use Rattle.call_specs.specs.ReportCall.{ReportCall, reportCall}
 use Rattle.calls.specs.Reference.{Call, setup, queueEvent, injectInterrupt, entry, exitReport, apicValue, fieldWrite, registerWrite, Event, Reference, Guarded, Fed, queuedBy, entriesBy, injectedBy, heldBy}
 
 -- ---- one call

@@ -7,9 +7,9 @@ use Rattle.vcpu_events.specs.Queue as Queue
 use Rattle.vcpu_events.specs.Entry.{injectionNumber}
 use Rattle.vcpu_events.specs.declared.Injection.the-variants.{Empty}
 use Rattle.vcpu_events.specs.Access as Access
-use Rattle.x86_vcpu.specs.Records.{Called, queueStep, EntryCalled, newCall}
-use Rattle.x86_vcpu.specs.SetupCall.{SetupCalled}
-use Rattle.x86_vcpu.specs.ReportCall.{ReportCalled}
+use Rattle.call_specs.specs.Records.{Called, queueStep, EntryCalled, newCall}
+use Rattle.call_specs.specs.SetupCall.{SetupCalled}
+use Rattle.call_specs.specs.ReportCall.{ReportCalled}
 use Rattle.calls.specs.Reference.{Call, setup, queueEvent, injectInterrupt, entry, exitReport, apicValue, fieldWrite, registerWrite}
 use Rattle.calls.specs.Calls.{stepOf, newRecord, isRefused}
 

@@ -18,7 +18,8 @@ use Rattle.vcpu_setup.specs.Capability.{capabilitiesOf}
 use Rattle.vcpu_report.specs.Invariant.{AllPermitted}
 use Rattle.blocks.specs.SetupBlock.{msrsOf}
 use Rattle.record.specs.Codec.{sessionOf, acceptedOf}
-use Rattle.calls.specs.Reference.{Call, setup, entry, Event, WellTyped, AllWellTyped, queuedBy, Reference, start, IsHeld, referenceAfter, referenceAnswers, rules, Refuses, types, codes, Word}
+use Rattle.bits.specs.Refuses.{Refuses}
+use Rattle.calls.specs.Reference.{Call, setup, entry, Event, WellTyped, AllWellTyped, queuedBy, Reference, start, IsHeld, referenceAfter, referenceAnswers, rules, types, codes, Word}
 use Rattle.calls.specs.Calls as Calls
 use Rattle.calls.specs.Calls.{stepOf, newRecord, after, historyOf, Accepts, Declines, enteredOf, fed, queued, injected, entries, holds, written, Logged, waitingOf, viewOf, guardedOf}
 

@@ -11,6 +11,7 @@ use lib.Dec.{T, eqb}
 use lib.ListN.{length, getD, take, drop}
 use Rattle.bits.specs.Words.{bit, flag, low32, high32, Within, Apart}
 use Rattle.bits.specs.LittleEndian.{littleEndian, Below}
+use Rattle.bits.specs.Refuses.{Rule, by, Refuses}
 use Rattle.regs.specs.Registers.{listOf}
 use Rattle.vmcs.specs.Named.{encodings}
 use Rattle.vcpu_events.specs.declared.Injection.{Injection}
@@ -245,18 +246,6 @@ referenceAnswers p [] = []
 referenceAnswers p (l ∷ ls) = referenceAnswer p (l .call) (l .refused) ∷ referenceAnswers (referenceStep p (l .call) (l .refused)) ls
 
 -- ---- refusals: the numbers in the order they are tested, each with where it applies
-
-pub record Rule : Type 1 where
-  pub number : ℕ
-  pub applies : Type 0
-
-abbrev pub by : ℕ → Type 0 → Rule
-by n P = record { number = n; applies = P }
-
--- n is the number of the first rule that applies, or 0
-abbrev pub Refuses : List Rule → ℕ → Type 0
-Refuses [] n = n ≡ 0
-Refuses (r ∷ rs) n = (r .applies × (n ≡ r .number)) ⊎ ((r .applies → ⊥) × Refuses rs n)
 
 -- 2 is its negation: each buffer of setup has its length, and its yes/no bytes are 0 or 1
 pub record Buffers (block a b msr : List ℕ) : Type 0 where

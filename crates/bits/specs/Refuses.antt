@@ -1,0 +1,18 @@
+-- The numbers by which a call is refused, in the order in which they are tested. Assumes nothing.
+use Prim.Native.Nat.{ℕ}
+use mathlib.Core.Path.{_≡_}
+use mathlib.Core.List.{List, [], _∷_}
+use mathlib.Core.Logic.{_⊎_}
+
+-- a number, and where it applies
+pub record Rule : Type 1 where
+  pub number : ℕ
+  pub applies : Type 0
+
+abbrev pub by : ℕ → Type 0 → Rule
+by n P = record { number = n; applies = P }
+
+-- n is the number of the first rule that applies, or 0
+abbrev pub Refuses : List Rule → ℕ → Type 0
+Refuses [] n = n ≡ 0
+Refuses (r ∷ rs) n = (r .applies × (n ≡ r .number)) ⊎ ((r .applies → ⊥) × Refuses rs n)

@@ -1,0 +1,3 @@
+pub mod Calls
+pub mod SetupCalls
+pub mod ReportCalls

@@ -39,6 +39,7 @@ contracts b =
           record {
             refusal = sym q;
             state = sym (ap (λ (o : EntryCall). o .bytes) (c .answer) ∙ k .bytes);
+            resumed = λ f. sym (ap (λ (o : EntryCall). o .resumed) (c .answer) ∙ k .resumes (subst (λ (n : ℕ). isRefused n ≡ false) q f));
             answer = λ f. sym (ap (λ (o : EntryCall). o .injection) (c .answer) ∙ k .answer (subst (λ (n : ℕ). isRefused n ≡ false) q f));
           };
       report = λ block words r after words' c.
@@ -46,6 +47,7 @@ contracts b =
           λ i. record {
             refusal = sym (ap (λ (o : ReportCall). o .refusal) (c .answer) ∙ k .0) i;
             answer = Empty;
+            resumed = false;
             state = sym (ap (λ (o : ReportCall). o .bytes) (c .answer) ∙ k .1) i;
           };
       apic = λ value r after c. ap plain (sym (c .answer));

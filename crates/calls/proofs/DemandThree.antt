@@ -1,102 +1,139 @@
 -- Demand 3, put together from the lemmas on one call, on lists and on records. Assumes nothing.
-use Prim.Native.Nat.{ℕ, _+_, _<_, _≤_, zero-le}
+use Prim.Native.Nat.{ℕ, _+_, _<_, _≤_}
 use mathlib.Core.Path.{_≡_, refl, sym, ap, _∙_, subst}
 use mathlib.Core.Bool.{Bool, true, false, cond, not}
 use mathlib.Core.List.{List, [], _∷_, _++_, append-nil, List·Memᴰ}
 use mathlib.Core.Logic.{inl, inr}
 use mathlib.Core.Option.{some, none, Option·getD}
 use native.Mathlib.Omega.{arith}
-use native.Mathlib.Nat.{le-refl, zero-add}
 use lib.Dec.{eqb, lit<}
-use lib.ListN.{length, getD, drop}
-use borrow.Author.Tests.{eqb-false, eq-eqb, le-leb}
+use lib.ListN.{length, getD, drop, length-append, length-drop}
+use borrow.Author.Tests.{eq-eqb, ne-eqb, le-leb}
+use Rattle.bits.specs.Refuses.{Refuses}
 use Rattle.bits.specs.Words.{bit}
 use Rattle.vmcs.specs.Field.{valueOf}
 use Rattle.vmcs.specs.Names.VmcsControl32 as VmcsControl32
+use Rattle.vmcs.specs.Names.VmcsHostNW as VmcsHostNW
 use Rattle.vmcs.specs.Names.VmcsReadOnly32 as VmcsReadOnly32
+use Rattle.vmcs.specs.Writes.{Sized}
 use Rattle.vmcs.specs.declared.Vmcs.{Vmcs}
 use Rattle.vcpu_session.specs.Session.{newSession, isUnlawful}
 use Rattle.vcpu_session.specs.declared.Session.{Session}
 use Rattle.vcpu_events.specs.Queue.{frontOf}
 use Rattle.vcpu_events.specs.Entry as Entry
-use Rattle.vcpu_events.specs.Entry.{injectionOf, withStack, injected, vmcsAfter, afterEntry}
+use Rattle.vcpu_events.specs.Entry.{injectionOf, withStack, vmcsAfter, afterEntry}
 use Rattle.vcpu_events.specs.declared.Entered.{Entered}
+use Rattle.vcpu_events.specs.declared.Event as Core
 use Rattle.vcpu_events.specs.declared.Injection.{Injection}
 use Rattle.vcpu_events.specs.declared.Injection.the-variants.{Empty, Held, Written}
 use Rattle.vcpu_setup.specs.Capability.{capabilitiesOf}
-use Rattle.vcpu_report.specs.Invariant.{AllPermitted}
 use Rattle.blocks.specs.SetupBlock.{msrsOf}
 use Rattle.record.specs.Codec.{sessionOf}
-use Rattle.bits.specs.Refuses.{Refuses}
-use Rattle.calls.specs.Reference.{types, codes, Call, setup, queueEvent, injectInterrupt, entry, exitReport, apicValue, fieldWrite, registerWrite, WellTyped, AllWellTyped, Event, injectedBy, leftBy, queuedBy, start, Reference, Guarded, validBy, effect, choose, isHeld, answerOn, referenceStep, referenceAnswer, referenceAfter, referenceAnswers, rules}
+use Rattle.calls.specs.Moves.{Move, queues, finds-none, holds, writes, exits, fails, rests, moved, Tally, begun, tallied, talliedAll}
+use Rattle.calls.specs.Reference.{types, codes, Call, entry, WellTyped, AllWellTyped, Event, entryMove, limitsOf, start, Reference, validBy, choose, isHeld, answerOn, moveOn, referenceStep, referenceAnswer, referenceAfter, referenceAnswers, Fed, ownRules, rules}
 use Rattle.calls.specs.Calls as Calls
-use Rattle.calls.specs.Calls.{stepOf, newRecord, after, historyOf, isRefused, Logged, fed, queuedAt, queued, injectedAt, entries, holds, written, eventOf, waitingOf, viewOf, guardedOf}
-use Rattle.calls.specs.DemandThree.{Answers, Wrote, WaitLaw, isWritten, Unwritten, judgedFields, WholeList}
-use Rattle.calls.proofs.Choices.{cond-all, choose-yes, choose-no}
-use Rattle.calls.proofs.Events.{events-front}
+use Rattle.calls.specs.Calls.{stepOf, newRecord, after, loggedOf, historyOf, isRefused, Logged, fed, moveOf, movesOf, tallyOf, written, eventOf, waitingOf, wordsOf, viewOf}
+use Rattle.calls.specs.DemandThree.{Answers, Wrote, Launches, WaitLaw, isWritten, Permits, Unwritten, judgedFields, acceptedSetup, WholeList}
+use Rattle.calls.proofs.Choices.{cond-all, impossible, choose-yes, choose-no}
 use Rattle.calls.proofs.WordBits.{tabled}
-use Rattle.calls.proofs.Fields.{same-stack, injected-word, injected-code, injected-long}
-use Rattle.calls.proofs.Sessions.{sessionStep, next, sessionAfter, sessionLogged, sessionLog, Sound, sound-sized, sound-alike}
+use Rattle.calls.proofs.Fields.{put-own, same-stack, same-window, same-injected, injected-word, injected-code, injected-long}
+use Rattle.calls.proofs.Sessions.{sessionStep, next, sessionAfter, sessionLogged, sessionLog, Sound, sound-sized}
 use Rattle.calls.proofs.Fits.{sound-step}
-use Rattle.calls.proofs.Steps.{step}
-use Rattle.calls.proofs.Whole.{run, moves, waits, injects, Clear, clear-after, accepts}
-use Rattle.calls.proofs.Permit.{unwritten-at, permits-since, enter-kept, kept-permitted}
-use Rattle.calls.proofs.Records.{Holds, carried, carry, holds-encoded, sound-new}
+use Rattle.calls.proofs.Steps.{step, written-waits, front-waits, answer-moves}
+use Rattle.calls.proofs.Waiting.{Kept, begins, keeps, counted, waits, injects}
+use Rattle.calls.proofs.Whole.{accepts, can, moves, accepted, Follows, run, kept-after}
+use Rattle.calls.proofs.Invariants.{entry-ready, Clear, clear-after, Launched, launched-after, one-setup}
+use Rattle.calls.proofs.Permit.{unwritten-at, permits-since, enter-kept, kept-permits}
+use Rattle.calls.proofs.Records.{Holds, carried, carry, holds-encoded, sound-new, setup-left, entry-results, report-results}
 
-one-injected : (a : Injection) (w : List Event) → length (injectedBy a w) ≤ 1
-one-injected Empty w = zero-le
-one-injected Held w = zero-le
-one-injected Written [] = zero-le
-one-injected Written (e ∷ w) = le-refl 1
+-- ---- what an accepted entry leaves, case by case
 
--- ---- what an entry that answers written leaves in the fields
+-- of a session that a record holds, ready, and below the last count
+module _ (s : Session) (stack : ℕ) (P : Entered → Type 0) where
+  by-entry : ((n : ℕ) → (eqb n 0 ≡ false) → P (Entry.refusedEntry n s))
+      → P (record { refusal = 0; resumed = s .progress .launched; injection = injectionOf (s .queue) (s .vmcs); session = afterEntry s stack (injectionOf (s .queue) (s .vmcs)) })
+      → P (Entry.entry s stack)
+  unfolding Entry.entry
+  by-entry refused done =
+      cond-all P (isUnlawful s) _ _ (λ _. refused 2 refl)
+      (λ _. cond-all P (not (eqb (s .progress .phase) 1)) _ _ (λ _. refused 1 refl)
+      (λ _. cond-all P (eqb (s .progress .entries) 4294967295) _ _ (λ _. refused 22 refl) (λ _. done)))
+
+-- ---- the event that an entry writes
 
 other : Empty ≡ Written → ⊥
 other e = let z : _≡_ {A = ℕ} 0 1 = cc in omega arith
-
-written-waits : (s : Session) → injectionOf (s .queue) (s .vmcs) ≡ Written → 0 < s .queue .waiting
-unfolding injectionOf
-written-waits s =
-    cond-all (λ (a : Injection). a ≡ Written → 0 < s .queue .waiting) (eqb (s .queue .waiting) 0) _ _ (λ _ e. absurd (other e))
-    (λ t _. let n = eqb-false (s .queue .waiting) 0 t in omega arith)
 
 -- the code that goes in
 given-code : (b : Bool) (x y : ℕ) → cond b x y ≡ Option·getD (cond b (some x) none) y
 given-code true x y = refl
 given-code false x y = refl
 
-module _ (s : Session) (stack : ℕ) (h : Sound s) where
-  abbrev begun : Vmcs
-  begun = withStack (s .vmcs) (s .progress .launched) stack
+module _ (t : Tally Event) (s : Session) (stack : ℕ) (h : Sound s) where
+  abbrev stacked : Vmcs
+  stacked = withStack (s .vmcs) (s .progress .launched) stack
 
-  wrote : 0 < s .queue .waiting → Wrote s (afterEntry s stack Written)
+  wrote : 0 < s .queue .waiting → Wrote (viewOf t s) (afterEntry s stack Written)
   unfolding afterEntry vmcsAfter
   wrote some-wait =
-      let q = s .queue in
-      let e = frontOf q in
+      let e = frontOf (s .queue) in
       let z = sound-sized s h in
       let k = same-stack VmcsReadOnly32.VMEXIT_INSTRUCTION_LEN (lit< tt) (s .vmcs) (s .progress .launched) stack z refl in
       let c = same-stack VmcsReadOnly32.VMEXIT_INTERRUPTION_ERR_CODE (lit< tt) (s .vmcs) (s .progress .launched) stack z refl in
-      let t = tabled (e .vector) (h .fits .queue .vectors .below 0) in
+      let y = tabled (e .vector) (h .fits .queue .vectors .below 0) in
       record {
         front = eventOf (e .vector) (e .coded) (e .code);
         rest = drop 1 (waitingOf s);
-        pending = events-front (q .waiting) (q .vectors) (q .coded) (q .codes) (sound-alike s h) some-wait (omega (arith, h .fits .queue .vectors .sized));
-        word = rw (injected-word begun e (k .sized)) (t .word);
-        code = λ x. injected-code begun e (k .sized) (t .coded ∙ eq-eqb _ _ x) ∙ ap (cond (e .coded) (e .code)) (c .value) ∙ given-code (e .coded) (e .code) _;
-        long = λ a b. injected-long begun e (k .sized) (t .soft ∙ rw (le-leb 4 (getD types (e .vector) 0) a) (le-leb _ _ b)) ∙ k .value;
+        pending = front-waits s h some-wait;
+        word = rw (injected-word stacked e (k .sized)) (y .word);
+        code = λ x. injected-code stacked e (k .sized) (y .coded ∙ eq-eqb _ _ x) ∙ ap (cond (e .coded) (e .code)) (c .value) ∙ given-code (e .coded) (e .code) _;
+        long = λ a b. injected-long stacked e (k .sized) (y .soft ∙ rw (le-leb 4 (getD types (e .vector) 0) a) (le-leb _ _ b)) ∙ k .value;
       }
 
-  entry-wrote : sessionStep s (entry stack) .answer ≡ Written → Wrote s (next s (entry stack))
-  unfolding Entry.entry
+  entry-wrote : sessionStep s (entry stack) .answer ≡ Written → Wrote (viewOf t s) (next s (entry stack))
   entry-wrote =
-      cond-all P (isUnlawful s) _ _ (λ _ e. absurd (other e))
-      (λ _. cond-all P (not (eqb (s .progress .phase) 1)) _ _ (λ _ e. absurd (other e))
-      (λ _. cond-all P (eqb (s .progress .entries) 4294967295) _ _ (λ _ e. absurd (other e))
-      (λ _ w. subst (λ (a : Injection). Wrote s (afterEntry s stack a)) (sym w) (wrote (written-waits s w)))))
+      by-entry s stack (λ (a : Entered). a .injection ≡ Written → Wrote (viewOf t s) (a .session)) (λ n _ e. absurd (other e))
+      (λ w. subst (λ (a : Injection). Wrote (viewOf t s) (afterEntry s stack a)) (sym w) (wrote (written-waits s w)))
+
+-- ---- launch or resume
+
+-- host RSP is what the stack left: an injection and the window write other fields
+stack-kept : (v : Vmcs) (e : Core.Event) (a : Injection) → Sized v → valueOf (vmcsAfter v e a) VmcsHostNW.RSP ≡ valueOf v VmcsHostNW.RSP
+unfolding vmcsAfter
+stack-kept v e Empty z = refl
+stack-kept v e Held z = same-window VmcsHostNW.RSP (lit< tt) v z refl .value
+stack-kept v e Written z = same-injected VmcsHostNW.RSP (lit< tt) v e z refl refl refl .value
+
+module _ (s : Session) (stack : ℕ) (h : Sound s) where
+  -- by the flag
+  record Resumes (a : Entered) : Type 0 where
+    resumed : a .resumed ≡ s .progress .launched
+    rsp : valueOf (a .session .vmcs) VmcsHostNW.RSP ≡ cond (s .progress .launched) (valueOf (s .vmcs) VmcsHostNW.RSP) stack
+
+  rsp-after : (a : Injection) → valueOf (afterEntry s stack a .vmcs) VmcsHostNW.RSP ≡ cond (s .progress .launched) (valueOf (s .vmcs) VmcsHostNW.RSP) stack
+  unfolding afterEntry withStack
+  rsp-after a =
+      stack-kept _ (frontOf (s .queue)) a (same-stack VmcsReadOnly32.VMEXIT_INSTRUCTION_LEN (lit< tt) (s .vmcs) (s .progress .launched) stack (sound-sized s h) refl .sized)
+      ∙ go (s .progress .launched)
     where
-      P : Entered → Type 0
-      P a = a .injection ≡ Written → Wrote s (a .session)
+      go : (b : Bool) → valueOf (withStack (s .vmcs) b stack) VmcsHostNW.RSP ≡ cond b (valueOf (s .vmcs) VmcsHostNW.RSP) stack
+      go true = refl
+      go false = put-own (s .vmcs) VmcsHostNW.RSP stack (sound-sized s h) (lit< tt)
+
+  entry-resumes : isRefused (Entry.entry s stack .refusal) ≡ false → Resumes (Entry.entry s stack)
+  entry-resumes =
+      by-entry s stack (λ (a : Entered). isRefused (a .refusal) ≡ false → Resumes a) (λ n e f. impossible (sym f ∙ ap not e))
+      (λ _. record { resumed = refl; rsp = rsp-after (injectionOf (s .queue) (s .vmcs)) })
+
+  -- by the entries counted
+  entry-launches : (n : ℕ) → s .progress .launched ≡ not (eqb n 0) → isRefused (Entry.entry s stack .refusal) ≡ false
+      → Launches n stack s (next s (entry stack)) (sessionStep s (entry stack) .resumed)
+  entry-launches n e ok =
+      let k = entry-resumes ok in
+      record {
+        launch = λ z. let f = e ∙ ap not (eq-eqb n 0 z) in (k .resumed ∙ f, k .rsp ∙ rw f);
+        resume = λ l. let f = e ∙ ap not (ne-eqb n 0 (λ z. omega arith)) in (k .resumed ∙ f, k .rsp ∙ rw f);
+      }
 
 -- ---- bit 31 of the word that an accepted entry leaves
 
@@ -105,20 +142,17 @@ valid-written Empty = refl
 valid-written Held = refl
 valid-written Written = refl
 
-entry-ready : (p : Reference) (g : Guarded) (stack : ℕ) → Refuses (rules p g (entry stack)) 0 → (p .phase ≡ 1 → ⊥) → ⊥
-entry-ready p g stack (inl x) n = omega (arith, x .1)
-entry-ready p g stack (inr x) n = x .0 n
-
-entry-valid : (s : Session) (stack : ℕ) → WellTyped (entry stack) → Sound s → Clear (viewOf [] s) → isRefused (sessionStep s (entry stack) .refusal) ≡ false
-    → bit 31 (valueOf (next s (entry stack) .vmcs) VmcsControl32.VMENTRY_INTERRUPTION_INFO_FIELD) ≡ isWritten (sessionStep s (entry stack) .answer)
-entry-valid s stack v h k ok =
-    let t = step [] s (entry stack) v h in
-    let p = viewOf [] s in
-    let n : Refuses (rules p (guardedOf s) (entry stack)) 0 = subst (Refuses (rules p (guardedOf s) (entry stack))) (accepts _ ok) (t .numbers) in
-    let z : p .valid ≡ false = k (λ e. entry-ready p (guardedOf s) stack n (λ o. omega arith)) (λ e. entry-ready p (guardedOf s) stack n (λ o. omega arith)) in
-    let a = effect p (entry stack) .answer in
-    ap (λ (r : Reference). r .valid) (t .state) ∙ ap (λ (r : Bool). referenceStep p (entry stack) r .valid) ok
-    ∙ ap (validBy a) z ∙ valid-written a ∙ ap isWritten (sym (t .answer ∙ ap (λ (r : Bool). cond r Empty a) ok))
+entry-valid : (t : Tally Event) (s : Session) (stack : ℕ) → WellTyped (entry stack) → Sound s → Clear (wordsOf s)
+    → isRefused (sessionStep s (entry stack) .refusal) ≡ false → wordsOf (next s (entry stack)) .valid ≡ isWritten (sessionStep s (entry stack) .answer)
+entry-valid t s stack v h k ok =
+    let p = viewOf t s in
+    let y = step t s (entry stack) v h in
+    let n = accepted t s (entry stack) v h ok in
+    let z : p .words .valid ≡ false = k (λ e. entry-ready p stack n (λ o. omega arith)) (λ e. entry-ready p stack n (λ o. omega arith)) in
+    let a = answerOn (p .pending) (p .words .flag) (p .words .interruptibility) in
+    ap (λ (r : Reference). r .words .valid) (y .state) ∙ ap (λ (r : Bool). referenceStep p (entry stack) r .words .valid) ok
+    ∙ ap (validBy a) z ∙ valid-written a
+    ∙ ap isWritten (sym (y .answer ∙ ap (referenceAnswer p (entry stack)) ok ∙ answer-moves (p .pending) (p .words .flag) (p .words .interruptibility)))
 
 -- ---- what an accepted entry answers
 
@@ -126,141 +160,179 @@ answers-of : (w : List Event) (f : Bool) (i : ℕ) (front : Event) (rest : List 
     → answerOn w f i ≡ choose (isHeld (front .vector) f i) Held Written
 answers-of w f i front rest e = ap (λ (l : List Event). answerOn l f i) e
 
-entry-answers : (s : Session) (stack : ℕ) → WellTyped (entry stack) → Sound s → isRefused (sessionStep s (entry stack) .refusal) ≡ false
-    → Answers s (sessionStep s (entry stack) .answer)
-entry-answers s stack v h ok =
-    let p = viewOf [] s in
-    let a = step [] s (entry stack) v h .answer ∙ ap (λ (r : Bool). referenceAnswer p (entry stack) r) ok in
+entry-answers : (t : Tally Event) (s : Session) (stack : ℕ) → WellTyped (entry stack) → Sound s → isRefused (sessionStep s (entry stack) .refusal) ≡ false
+    → Answers (viewOf t s) (sessionStep s (entry stack) .answer)
+entry-answers t s stack v h ok =
+    let p = viewOf t s in
+    let f = p .words .flag in
+    let i = p .words .interruptibility in
+    let a = step t s (entry stack) v h .answer ∙ ap (referenceAnswer p (entry stack)) ok ∙ answer-moves (p .pending) f i in
     record {
-      none = λ e. a ∙ ap (λ (l : List Event). answerOn l (p .flag) (p .interruptibility)) e;
-      held = λ front rest e k. a ∙ answers-of (p .pending) (p .flag) (p .interruptibility) front rest e ∙ choose-yes
-          (isHeld (front .vector) (p .flag) (p .interruptibility)) Held Written k;
-      written = λ front rest e k. a ∙ answers-of (p .pending) (p .flag) (p .interruptibility) front rest e ∙ choose-no
-          (isHeld (front .vector) (p .flag) (p .interruptibility)) Held Written k;
+      none = λ e. a ∙ ap (λ (l : List Event). answerOn l f i) e;
+      held = λ front rest e k. a ∙ answers-of (p .pending) f i front rest e ∙ choose-yes (isHeld (front .vector) f i) Held Written k;
+      written = λ front rest e k. a ∙ answers-of (p .pending) f i front rest e ∙ choose-no (isHeld (front .vector) f i) Held Written k;
     }
 
--- ---- the whole
+-- ---- what a move takes off
 
-view-new : viewOf [] newSession ≡ start
-unfolding newSession
-view-new = refl
+none-queued : (a : Injection) (w : List Event) → tallied begun (entryMove a w) .queued ≡ []
+none-queued Empty w = refl
+none-queued Held w = refl
+none-queued Written [] = refl
+none-queued Written (e ∷ w) = refl
 
-none-wait : waitingOf newSession ≡ []
-none-wait = ap (λ (p : Reference). p .pending) view-new
+one-off : (w : List Event) (m : Move Event) → length w ≤ length (moved w m) + 1
+one-off w (queues e) = omega (arith, length-append w (e ∷ []))
+one-off w finds-none = omega arith
+one-off w holds = omega arith
+one-off w (writes e) = omega (arith, length-drop 1 w)
+one-off w exits = omega arith
+one-off w fails = omega arith
+one-off w rests = omega arith
+
+-- ---- one call more, on a record b that holds s
 
 typed-more : (cs : List Call) (c : Call) → AllWellTyped cs → WellTyped c → AllWellTyped (cs ++ (c ∷ []))
 typed-more [] c w v = (v, tt)
 typed-more (d ∷ cs) c w v = (w .0, typed-more cs c (w .1) v)
 
--- a call that queues an event is no entry
-queueing : (p : Reference) (c : Call) (e : Event) → queuedBy c ≡ e ∷ [] → effect p c .answer ≡ Empty
-queueing p (setup block a b msr) e q = absurd (let z = ap length q in omega arith)
-queueing p (queueEvent vector coded code) e q = refl
-queueing p (injectInterrupt vector) e q = refl
-queueing p (entry stack) e q = absurd (let z = ap length q in omega arith)
-queueing p (exitReport block) e q = absurd (let z = ap length q in omega arith)
-queueing p (apicValue value) e q = absurd (let z = ap length q in omega arith)
-queueing p (fieldWrite encoding value) e q = absurd (let z = ap length q in omega arith)
-queueing p (registerWrite index value) e q = absurd (let z = ap length q in omega arith)
+-- a call more at the end of a list is a move more
+tally-more : (t : Tally Event) (s : Session) (cs : List Call) (c : Call)
+    → talliedAll t (movesOf (sessionLog s (cs ++ (c ∷ [])))) ≡ tallied (talliedAll t (movesOf (sessionLog s cs))) (moveOf (sessionLogged (sessionAfter s cs) c))
+tally-more t s [] c = refl
+tally-more t s (d ∷ cs) c = tally-more (tallied t (moveOf (sessionLogged s d))) (next s d) cs c
 
--- one call more, on a record b that holds s
+logged-as : (b : List ℕ) (s : Session) → Holds b s → Sound s → (c : Call) → WellTyped c → loggedOf b c ≡ sessionLogged s c
+logged-as b s m h c v =
+    let k = carried b s c v m h in λ i. record { call = c; refusal = k .refusal i; answer = k .answer i; waiting = waitingOf (m .holds i) }
+
 module _ (b : List ℕ) (s : Session) (m : Holds b s) (h : Sound s) where
-  one : (c : Call) → WellTyped c → Calls.injected (historyOf b (c ∷ [])) ≡ injectedAt (sessionLogged s c)
-  one c v = ap Calls.injected (carry b s (c ∷ []) (v, tt) m h .history) ∙ append-nil (injectedAt (sessionLogged s c))
-
   -- acceptance, on the session
   ok-session : (c : Call) → WellTyped c → isRefused (stepOf b c .refusal) ≡ false → isRefused (sessionStep s c .refusal) ≡ false
   ok-session c v ok = subst (λ (n : ℕ). isRefused n ≡ false) (carried b s c v m h .refusal) ok
 
-  moved : (stack : ℕ) → WellTyped (entry stack) → isRefused (stepOf b (entry stack) .refusal) ≡ false
-      → waitingOf (sessionOf b) ≡ Calls.injected (historyOf b (entry stack ∷ [])) ++ waitingOf (sessionOf (stepOf b (entry stack) .state))
-  moved stack v ok =
+  moved-entry : (stack : ℕ) → WellTyped (entry stack) → isRefused (stepOf b (entry stack) .refusal) ≡ false
+      → waitingOf (sessionOf b) ≡ tallyOf (historyOf b (entry stack ∷ [])) .injected ++ waitingOf (sessionOf (stepOf b (entry stack) .state))
+  moved-entry stack v ok =
       let c = entry stack in
-      let q : queuedAt (sessionLogged s c) ≡ [] = ap (λ (r : Bool). cond r [] []) (ok-session c v ok) in
+      let w = waitingOf s in
+      let x = moveOf (sessionLogged s c) in
+      let none : tallied begun x .queued ≡ []
+      = ap (λ (r : Bool). tallied begun (cond r rests (entryMove (sessionStep s c .answer) w)) .queued) (ok-session c v ok) ∙ none-queued (sessionStep s c .answer) w in
+      let k = keeps (subst (λ (l : List Event). Kept w [] l begun) (append-nil w) (begins w [])) x (can begun s c v h) in
       ap waitingOf (m .holds)
-      ∙ sym (moves s c v h ∙ ap (λ (l : List Event). waitingOf s ++ l) q ∙ append-nil (waitingOf s))
-      ∙ (λ i. sym (one c v) i ++ waitingOf (sym (carried b s c v m h .state .holds) i))
+      ∙ sym (k .order ∙ ap (λ (l : List Event). w ++ l) none ∙ append-nil w)
+      ∙ ap (λ (l : List Event). tallied begun x .injected ++ l) (sym (moves begun s c v h))
+      ∙ (λ i. tallied begun (moveOf (sym (logged-as b s m h c v) i)) .injected ++ waitingOf (sym (carried b s c v m h .state .holds) i))
 
-  law : (c : Call) → WellTyped c → isRefused (stepOf b c .refusal) ≡ false → (e : Event) → queuedBy c ≡ e ∷ []
-      → WaitLaw (stepOf b c .state) (waitingOf (sessionOf b)) e
-  law c v ok e q =
+  at-most-one : (c : Call) → WellTyped c → length (waitingOf (sessionOf b)) ≤ length (waitingOf (sessionOf (stepOf b c .state))) + 1
+  at-most-one c v =
+      let x = moveOf (sessionLogged s c) in
+      let before = ap (λ (t : Session). length (waitingOf t)) (m .holds) in
+      let later = ap (λ (t : Session). length (waitingOf t)) (carried b s c v m h .state .holds) ∙ ap length (moves begun s c v h) in
+      let l = one-off (waitingOf s) x in
+      omega arith
+
+  law : (c : Call) → WellTyped c → (e : Event) → moveOf (loggedOf b c) ≡ queues e → WaitLaw (stepOf b c .state) (waitingOf (sessionOf b)) e
+  law c v e q =
       let t = next s c in
       let bt = stepOf b c .state in
       let ahead = waitingOf (sessionOf b) in
       let ht = sound-step s c v h in
       let mt = carried b s c v m h .state in
-      let p = viewOf [] s in
       let last : waitingOf t ≡ ahead ++ (e ∷ [])
-      = ap (λ (r : Reference). r .pending) (step [] s c v h .state) ∙ ap (λ (r : Bool). referenceStep p c r .pending) (ok-session c v ok)
-      ∙ (λ i. leftBy (queueing p c e q i) (waitingOf (sym (m .holds) i)) ++ q i) in
+      = moves begun s c v h ∙ (λ i. moved (waitingOf (sym (m .holds) i)) (moveOf (sym (logged-as b s m h c v) i))) ∙ ap (moved ahead) q in
+      let first : Kept ahead (e ∷ []) (waitingOf t) begun = subst (λ (l : List Event). Kept ahead (e ∷ []) l begun) (sym last) (begins ahead (e ∷ [])) in
+      let kept : (later : List Call) → AllWellTyped later → Kept ahead (e ∷ []) (waitingOf (sessionAfter t later)) (tallyOf (sessionLog t later))
+      = λ later u. kept-after begun t later u ht first in
+      let on : (later : List Call) → AllWellTyped later → tallyOf (historyOf bt later) ≡ tallyOf (sessionLog t later)
+      = λ later u. ap tallyOf (carry bt t later u mt ht .history) in
       record {
-        counted = λ later u. subst (λ (ls : List Logged). holds ls ≤ entries ls) (sym (carry bt t later u mt ht .history)) (run [] t later u ht .fewer);
+        counted = λ later u. subst (λ (y : Tally Event). y .held ≤ y .entries) (sym (on later u)) (counted (kept later u));
         waits = λ later u n made few.
-            let kl = carry bt t later u mt ht in
-            ap waitingOf (kl .state .holds) ∙ waits t ahead e ht last later u n (subst (λ (ls : List Logged). entries ls ≡ holds ls + n) (kl .history) made) few
-            ∙ ap (λ (ls : List Logged). drop n ahead ++ (e ∷ queued ls)) (sym (kl .history));
+            ap waitingOf (carry bt t later u mt ht .state .holds)
+            ∙ waits e (kept later u) n (subst (λ (y : Tally Event). y .entries ≡ y .held + n) (on later u) made) few
+            ∙ ap (λ (y : Tally Event). drop n ahead ++ (e ∷ y .queued)) (sym (on later u));
         injects = λ later u d x n made few full.
-            let kl = carry bt t later u mt ht in
-            let km = carry bt t (later ++ (d ∷ [])) (typed-more later d u x) mt ht in
-            ap Calls.injected (carry (after bt later) (sessionAfter t later) (d ∷ []) (x, tt) (kl .state) (run [] t later u ht .sound) .history)
-            ∙ append-nil (injectedAt (sessionLogged (sessionAfter t later) d))
-            ∙ injects t ahead e ht last later u d x n (subst (λ (ls : List Logged). entries ls ≡ holds ls + n) (kl .history) made) few
-            (subst (λ (ls : List Logged). entries ls ≡ holds ls + (length ahead + 1)) (km .history) full);
+            let sl = sessionAfter t later in
+            let hl = run begun t later u ht .sound in
+            ap moveOf (logged-as (after bt later) sl (carry bt t later u mt ht .state) hl d x)
+            ∙ injects e (kept later u) (moveOf (sessionLogged sl d)) (can begun sl d x hl) n
+            (subst (λ (y : Tally Event). y .entries ≡ y .held + n) (on later u) made) few
+            (subst (λ (y : Tally Event). y .entries ≡ y .held + (length ahead + 1)) (on (later ++ (d ∷ [])) (typed-more later d u x) ∙ tally-more begun t later d) full);
       }
+
+-- ---- the whole
+
+view-new : viewOf begun newSession ≡ start
+unfolding newSession
+view-new = refl
 
 pub whole-list : (calls : List Call) → AllWellTyped calls → WholeList calls (after newRecord calls)
 whole-list calls w =
     let s = sessionAfter newSession calls in
     let b = after newRecord calls in
     let log = sessionLog newSession calls in
+    let t = tallyOf log in
+    let p = referenceAfter start (fed (historyOf newRecord calls)) in
     let k = carry newRecord newSession calls w (holds-encoded newSession sound-new) sound-new in
     let m = k .state in
-    let r = run [] newSession calls w sound-new in
+    let r = run begun newSession calls w sound-new in
     let h = r .sound in
     let on = ap fed (sym (k .history)) in
-    let at : viewOf (Calls.injected log) s ≡ referenceAfter start (fed (historyOf newRecord calls)) = r .state ∙ (λ i. referenceAfter (view-new i) (on i)) in
+    let at : viewOf t s ≡ p = r .state ∙ (λ i. referenceAfter (view-new i) (on i)) in
+    let same : viewOf t s .tally ≡ t = r .counts (ap (λ (q : Reference). q .tally) view-new) in
+    let follows : Follows start (fed (historyOf newRecord calls)) = subst (λ (ls : List Fed). Follows start ls) on (subst (λ (q : Reference). Follows q (fed log)) view-new (r .follows)) in
+    let line = kept-after {ahead = []} {x = []} begun newSession calls w sound-new
+    (subst (λ (l : List Event). Kept [] [] l begun) (ap (λ (q : Reference). q .pending) (sym view-new)) (begins [] [])) in
+    let ready : (stack : ℕ) → WellTyped (entry stack) → isRefused (stepOf b (entry stack) .refusal) ≡ false → Refuses (ownRules p (entry stack)) 0
+    = λ stack v ok. subst (λ (q : Reference). Refuses (ownRules q (entry stack)) 0) at (accepted t s (entry stack) v h (ok-session b s m h (entry stack) v ok)) in
     record {
       number = m .accepted;
-      state = (λ i. viewOf (Calls.injected (k .history i)) (m .holds i)) ∙ at;
+      state = (λ i. viewOf (tallyOf (k .history i)) (m .holds i)) ∙ at;
       answered = ap Calls.answers (k .history) ∙ r .answered ∙ (λ i. referenceAnswers (view-new i) (on i));
       numbers = λ c v.
-          subst (λ (n : ℕ). Refuses (rules (referenceAfter start (fed (historyOf newRecord calls))) (guardedOf (sessionOf b)) c) n)
-          (sym (carried b s c v m h .refusal))
-          (subst (λ (t : Session). Refuses (rules (referenceAfter start (fed (historyOf newRecord calls))) (guardedOf t) c) (sessionStep s c .refusal))
-          (sym (m .holds))
-          (subst (λ (p : Reference). Refuses (rules p (guardedOf s) c) (sessionStep s c .refusal)) at (step (Calls.injected log) s c v h .numbers)));
+          inr (λ never. never, subst (Refuses (ownRules p c)) (sym (carried b s c v m h .refusal)) (subst (λ (q : Reference). Refuses (ownRules q c) (sessionStep s c .refusal)) at (step t s c v h .numbers)));
       unchanged = λ c v. carried b s c v m h .unchanged;
-      order = ap queued (k .history) ∙ sym (r .order ∙ ap (λ (l : List Event). l ++ queued log) none-wait) ∙
-          (λ i. Calls.injected (sym (k .history) i) ++ waitingOf (sym (m .holds) i));
-      entered = ap (λ (t : Session). t .progress .entries) (m .holds) ∙ r .entered ∙ ap
-          (λ (p : Reference). p .entries + entries log) view-new ∙ zero-add _ ∙ ap entries (sym (k .history));
-      held = ap (λ (t : Session). t .progress .held) (m .holds) ∙ r .held ∙ ap (λ (p : Reference). p .held + holds log) view-new ∙ zero-add _ ∙ ap holds
-          (sym (k .history));
-      answers = λ stack v ok.
+      leaves = record {
+        frames = λ block x y z. setup-left block x y z b;
+        results = λ stack resumed injection. entry-results stack resumed injection b .left;
+        words = λ block words. report-results block words b .2;
+      };
+      order = ap (λ (ls : List Logged). tallyOf ls .queued) (k .history) ∙ sym (line .order) ∙ (λ i. tallyOf (sym (k .history) i) .injected ++ waitingOf (sym (m .holds) i));
+      entered = ap (λ (x : Session). x .progress .entries) (m .holds) ∙ ap (λ (x : Tally Event). x .entries) same ∙ ap (λ (ls : List Logged). tallyOf ls .entries) (sym (k .history));
+      held = ap (λ (x : Session). x .progress .held) (m .holds) ∙ ap (λ (x : Tally Event). x .held) same ∙ ap (λ (ls : List Logged). tallyOf ls .held) (sym (k .history));
+      once = λ stack v ok. one-setup start (fed (historyOf newRecord calls)) follows refl (λ e. entry-ready p stack (ready stack v ok) (λ o. omega arith));
+      launches = λ stack v ok.
           let kc = carried b s (entry stack) v m h in
-          subst (λ (x : Session). Answers x (stepOf b (entry stack) .answer)) (sym (m .holds))
-          (subst (Answers s) (sym (kc .answer)) (entry-answers s stack v h (ok-session b s m h (entry stack) v ok)));
-      moved = moved b s m h;
-      atMostOne = λ c. subst (λ (l : List Event). length l ≤ 1) (sym (append-nil (injectedBy (stepOf b c .answer) (waitingOf (sessionOf b)))))
-          (one-injected (stepOf b c .answer) (waitingOf (sessionOf b)));
+          let flag : s .progress .launched ≡ not (eqb (t .entries) 0)
+          = ap (λ (q : Reference). q .words .launched) at ∙ launched-after start (fed (historyOf newRecord calls)) refl
+          ∙ ap (λ (q : Reference). not (eqb (q .tally .entries) 0)) (sym at) ∙ ap (λ (x : Tally Event). not (eqb (x .entries) 0)) same in
+          subst (λ (ls : List Logged). Launches (tallyOf ls .entries) stack (sessionOf b) (sessionOf (stepOf b (entry stack) .state)) (stepOf b (entry stack) .resumed)) (sym (k .history))
+          (subst (λ (x : Session). Launches (t .entries) stack x (sessionOf (stepOf b (entry stack) .state)) (stepOf b (entry stack) .resumed)) (sym (m .holds))
+          (subst (λ (x : Session). Launches (t .entries) stack s x (stepOf b (entry stack) .resumed)) (sym (kc .state .holds))
+          (subst (Launches (t .entries) stack s (next s (entry stack))) (sym (kc .resumed))
+          (entry-launches s stack h (t .entries) flag (ok-session b s m h (entry stack) v ok)))));
+      answers = λ stack v ok.
+          subst (Answers p) (sym (carried b s (entry stack) v m h .answer))
+          (subst (λ (q : Reference). Answers q (sessionStep s (entry stack) .answer)) at (entry-answers t s stack v h (ok-session b s m h (entry stack) v ok)));
+      moved = moved-entry b s m h;
+      atMostOne = at-most-one b s m h;
       wrote = λ stack v e.
           let kc = carried b s (entry stack) v m h in
-          subst (λ (x : Session). Wrote x (sessionOf (stepOf b (entry stack) .state))) (sym (m .holds))
-          (subst (Wrote s) (sym (kc .state .holds)) (entry-wrote s stack h (sym (kc .answer) ∙ e)));
+          subst (Wrote p) (sym (kc .state .holds)) (subst (λ (q : Reference). Wrote q (next s (entry stack))) at (entry-wrote t s stack h (sym (kc .answer) ∙ e)));
       valid = λ none stack v ok.
           let kc = carried b s (entry stack) v m h in
-          ap (λ (x : Session). bit 31 (valueOf (x .vmcs) VmcsControl32.VMENTRY_INTERRUPTION_INFO_FIELD)) (kc .state .holds)
-          ∙ entry-valid s stack v h
-          (clear-after newSession calls w sound-new (ap (written 0x4016) (sym (k .history)) ∙ none) (λ x y. ap (λ (p : Reference). p .valid) view-new))
-          (ok-session b s m h (entry stack) v ok)
+          let clear : Clear (p .words) = clear-after start (fed (historyOf newRecord calls)) follows none (λ _ _. refl) in
+          ap (λ (x : Session). wordsOf x .valid) (kc .state .holds)
+          ∙ entry-valid t s stack v h (subst (λ (q : Reference). Clear (q .words)) (sym at) clear) (ok-session b s m h (entry stack) v ok)
           ∙ ap isWritten (sym (kc .answer));
       permitted = λ none block a c msr mem stack v ok.
-          let kc = carried b s (entry stack) v m h in
-          subst (λ (t : Session). AllPermitted (capabilitiesOf (msrsOf block)) (t .vmcs)) (sym (kc .state .holds))
-          (kept-permitted (capabilitiesOf (msrsOf block)) (next s (entry stack))
+          subst (λ (x : Session). Permits (limitsOf (msrsOf block)) (x .vmcs)) (sym (carried b s (entry stack) v m h .state .holds))
+          (kept-permits (msrsOf block) (next s (entry stack))
           (enter-kept (capabilitiesOf (msrsOf block)) s stack
           (permits-since block a c msr newSession calls w sound-new
-          (unwritten-at judgedFields log (subst (Unwritten judgedFields) (k .history) none))
-          (subst (List·Memᴰ (record { call = setup block a c msr; refused = false })) (ap fed (k .history)) mem))));
+          (unwritten-at judgedFields (fed log) (subst (Unwritten judgedFields) (sym on) none))
+          (subst (List·Memᴰ (acceptedSetup block a c msr)) (sym on) mem))));
       law = law b s m h;
     }

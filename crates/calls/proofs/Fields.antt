@@ -4,7 +4,9 @@ use mathlib.Core.Path.{_≡_, refl, _∙_}
 use mathlib.Core.Bool.{Bool, true, false, cond, _&&_}
 use mathlib.Core.List.{List, [], _∷_}
 use lib.Dec.{T, ltb, ltb→lt, lit<}
+use lib.ListN.{drop}
 use borrow.Author.Tests.{eq-eqb}
+use Rattle.bits.proofs.Tells.{both-false}
 use Rattle.bits.proofs.WordLaws.{and-l, and-r}
 use Rattle.definitions.specs.Interruption.{hasErrorCode, isSoft, fromVector}
 use Rattle.vmcs.specs.Field.{Field, Word16, Word64, Word32, Natural, placeOf, sizeOf, widthBits, valueOf, put}
@@ -14,8 +16,11 @@ use Rattle.vmcs.specs.Names.VmcsControl32 as VmcsControl32
 use Rattle.vmcs.specs.Names.VmcsHostNW as VmcsHostNW
 use Rattle.vmcs.specs.Names.VmcsReadOnly32 as VmcsReadOnly32
 use Rattle.vmcs.proofs.WriteLaws.{read-applied, sized-applied}
-use Rattle.vcpu_events.specs.Entry.{wordOf, codeOf, withCode, withLength, injected, withStack, windowSet}
+use Rattle.vcpu_events.specs.Entry.{wordOf, codeOf, withCode, withLength, injected, withStack, windowSet, vmcsAfter}
 use Rattle.vcpu_events.specs.declared.Event as Core
+use Rattle.vcpu_events.specs.declared.Injection.{Injection}
+use Rattle.vcpu_events.specs.declared.Injection.the-variants.{Empty, Held, Written}
+use Rattle.vcpu_report.specs.Laws.{oneOf}
 use Rattle.record.specs.Fitting.{VmcsFits}
 use Rattle.record_edits.proofs.Fits.{put-fits}
 use Rattle.calls.proofs.Choices.{cond-all}
@@ -78,6 +83,36 @@ module _ (f : Field) (h : placeOf f < sizeOf f) where
       → sameField VmcsControl32.VMENTRY_INSTRUCTION_LEN f ≡ false
       → sameField VmcsControl32.VMENTRY_INTERRUPTION_INFO_FIELD f ≡ false → Same f v (injected v e)
   same-injected v e s a b c = injection-keeps (Same f v) (λ g. sameField g f ≡ false) (same-put v) v e a b c (record { sized = s; value = refl })
+
+-- the fields that an entry may write
+abbrev pub entryFields : List Field
+entryFields =
+    VmcsHostNW.RSP
+    ∷ VmcsControl32.PRIMARY_PROCBASED_EXEC_CONTROLS
+    ∷ VmcsControl32.VMENTRY_EXCEPTION_ERR_CODE
+    ∷ VmcsControl32.VMENTRY_INSTRUCTION_LEN
+    ∷ VmcsControl32.VMENTRY_INTERRUPTION_INFO_FIELD
+    ∷ []
+
+-- every other field is as it was
+pub same-entered : (f : Field) → placeOf f < sizeOf f → (v : Vmcs) (launched : Bool) (stack : ℕ) (e : Core.Event) (a : Injection) → Sized v
+    → oneOf entryFields f ≡ false → Same f v (vmcsAfter (withStack v launched stack) e a)
+unfolding vmcsAfter windowSet
+same-entered f h v launched stack e a s other =
+    let n1 = both-false (sameField VmcsHostNW.RSP f) (oneOf (drop 1 entryFields) f) other in
+    let n2 = both-false (sameField VmcsControl32.PRIMARY_PROCBASED_EXEC_CONTROLS f) (oneOf (drop 2 entryFields) f) (n1 .1) in
+    let n3 = both-false (sameField VmcsControl32.VMENTRY_EXCEPTION_ERR_CODE f) (oneOf (drop 3 entryFields) f) (n2 .1) in
+    let n4 = both-false (sameField VmcsControl32.VMENTRY_INSTRUCTION_LEN f) (oneOf (drop 4 entryFields) f) (n3 .1) in
+    let n5 = both-false (sameField VmcsControl32.VMENTRY_INTERRUPTION_INFO_FIELD f) false (n4 .1) in
+    go a (same-stack f h v launched stack s (n1 .0)) (n2 .0) (n3 .0) (n4 .0) (n5 .0)
+  where
+    go : (a : Injection) → Same f v (withStack v launched stack) → sameField VmcsControl32.PRIMARY_PROCBASED_EXEC_CONTROLS f ≡ false
+        → sameField VmcsControl32.VMENTRY_EXCEPTION_ERR_CODE f ≡ false → sameField VmcsControl32.VMENTRY_INSTRUCTION_LEN f ≡ false
+        → sameField VmcsControl32.VMENTRY_INTERRUPTION_INFO_FIELD f ≡ false → Same f v (vmcsAfter (withStack v launched stack) e a)
+    go Empty k primary code long info = k
+    go Held k primary code long info = same-put f h v (withStack v launched stack) VmcsControl32.PRIMARY_PROCBASED_EXEC_CONTROLS _ primary k
+    go Written k primary code long info =
+        injection-keeps (Same f v) (λ g. sameField g f ≡ false) (same-put f h v) (withStack v launched stack) e code long info k
 
 -- ---- what an injection leaves
 

@@ -1,4 +1,5 @@
 pub mod Choices
+pub mod Waiting
 pub mod Events
 pub mod RawWrites
 pub mod WordBits
@@ -7,11 +8,13 @@ pub mod Sessions
 pub mod SetupNumbers
 pub mod SetupFits
 pub mod ReportNumbers
+pub mod Handled
 pub mod Keeps
 pub mod ReportFits
 pub mod Fits
 pub mod Steps
 pub mod Whole
+pub mod Invariants
 pub mod Permit
 pub mod Records
 pub mod DemandThree

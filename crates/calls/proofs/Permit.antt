@@ -8,6 +8,8 @@ use native.Mathlib.Omega.{arith}
 use lib.Dec.{T, eqb, leb, ltb, ltb→lt, lit<}
 use borrow.Author.Tests.{eqb-true, eqb-false, leb-false}
 use Rattle.bits.specs.Words.{bit, Within}
+use Rattle.bits.proofs.BitLaws.{bit-of-zero}
+use Rattle.bits.proofs.Tells.{both-false}
 use Rattle.bits.proofs.WordLaws.{and-l, and-r}
 use Rattle.regs.specs.Registers.{withRegOfIndex}
 use Rattle.regs.specs.declared.RegWritten.{RegWritten}
@@ -51,11 +53,12 @@ use Rattle.blocks.specs.ReportBlock as Report
 use Rattle.blocks.specs.ReportBlock.{reportOf}
 use Rattle.vcpu_report.proofs.ReportLaws.{report-laws}
 use Rattle.calls.specs.Reference as Reference
-use Rattle.calls.specs.Reference.{Call, setup, queueEvent, injectInterrupt, entry, exitReport, apicValue, fieldWrite, registerWrite, WellTyped, AllWellTyped, Reference, waits, Effect, effect, referenceStep, Fed}
-use Rattle.calls.specs.Calls.{isRefused, Logged, fed, writesField, written, viewOf}
+use Rattle.calls.specs.Reference.{Call, setup, queueEvent, injectInterrupt, entry, exitReport, apicValue, fieldWrite, registerWrite, WellTyped, AllWellTyped, limitsOf, Reference, Fed}
+use Rattle.calls.specs.Moves.{begun}
+use Rattle.calls.specs.Calls.{isRefused, fed, writesField, written, viewOf}
 use Rattle.calls.specs.DemandThree as Demand
-use Rattle.calls.specs.DemandThree.{Unwritten}
-use Rattle.calls.proofs.Choices.{cond-all, choose-all}
+use Rattle.calls.specs.DemandThree.{Unwritten, Permits}
+use Rattle.calls.proofs.Choices.{cond-all}
 use Rattle.calls.proofs.RawWrites.{other-field}
 use Rattle.calls.proofs.Fields.{stack-keeps, injection-keeps}
 use Rattle.calls.proofs.Sessions.{hasBuffers, next, sessionAfter, sessionLogged, sessionLog, Sound, sound-sized}
@@ -65,9 +68,10 @@ use Rattle.calls.proofs.ReportFits.{FitsReport, block-fits}
 use Rattle.calls.proofs.Fits.{sound-step}
 use Rattle.calls.proofs.Steps.{step, block-msrs}
 use Rattle.calls.proofs.Whole.{accepts}
+use Rattle.calls.proofs.Invariants.{phase-step}
 use Rattle.vcpu_report.specs.Invariant.{Consistent, AllPermitted, SoundFields}
 use Rattle.vcpu_report.specs.Laws.{oneOf}
-use Rattle.vcpu_report.proofs.Steps.{neither, judgedFields, every, kept-by, kept-other}
+use Rattle.vcpu_report.proofs.Steps.{judgedFields, every, kept-by, kept-other}
 use Rattle.vcpu_report.proofs.Kept.{owned-cr0, owned-cr4}
 use Rattle.vcpu_report.proofs.Words.{aside-of, aside-set, sound-permitted}
 
@@ -197,45 +201,27 @@ module _ (c : Capabilities) where
       Q : RegWritten → Type 0
       Q a = Leaves (registersWritten s a)
 
--- ---- the phase never goes back to fresh
-
-phase-effect : (p : Reference) (c : Call) → p .phase ≢ 0 → effect p c .phase ≢ 0
-phase-effect p (setup block a b msr) n = λ e. omega arith
-phase-effect p (queueEvent vector coded code) n = n
-phase-effect p (injectInterrupt vector) n = n
-phase-effect p (entry stack) n = λ e. omega arith
-phase-effect p (exitReport block) n =
-    cond-all (λ (x : Effect). x .phase ≢ 0) (bit 31 (reportOf block .reason)) _ _ (λ _ e. omega arith)
-    (λ _. choose-all (λ (x : ℕ). x ≢ 0) (waits (reportOf block)) 3 1 (λ e. omega arith) (λ e. omega arith))
-phase-effect p (apicValue value) n = λ e. omega arith
-phase-effect p (fieldWrite encoding value) n = n
-phase-effect p (registerWrite index value) n = n
-
-phase-on : (p : Reference) (c : Call) (r : Bool) → p .phase ≢ 0 → referenceStep p c r .phase ≢ 0
-phase-on p c true n = n
-phase-on p c false n = phase-effect p c n
-
 -- ---- a list of calls
 
 -- none of these fields is written
-abbrev Free : List Logged → Type 0
+abbrev Free : List Fed → Type 0
 Free ls = (x : ℕ) → List·Memᴰ x Demand.judgedFields → written x ls ≡ false
 
-pub unwritten-at : (xs : List ℕ) (ls : List Logged) → Unwritten xs ls → (x : ℕ) → List·Memᴰ x xs → written x ls ≡ false
+pub unwritten-at : (xs : List ℕ) (ls : List Fed) → Unwritten xs ls → (x : ℕ) → List·Memᴰ x xs → written x ls ≡ false
 unwritten-at [] ls u x m = absurd (List·Memᴰ·not-nil m)
 unwritten-at (y ∷ ys) ls u x m =
     elim (List·Memᴰ·cases-cons m) [ inl e ↦ subst (λ (z : ℕ). written z ls ≡ false) (sym e) (u .0) | inr t ↦ unwritten-at ys ls (u .1) x t ]
 
-split-free : (s : Session) (c : Call) (cs : List Call) → Free (sessionLog s (c ∷ cs)) → (x : ℕ) → List·Memᴰ x Demand.judgedFields
-    → (cond (isRefused (sessionLogged s c .refusal)) false (writesField x c) ≡ false) × (written x (sessionLog (next s c) cs) ≡ false)
-split-free s c cs n x m = neither (cond (isRefused (sessionLogged s c .refusal)) false (writesField x c)) (written x (sessionLog (next s c) cs)) (n x m)
+split-free : (s : Session) (c : Call) (cs : List Call) → Free (fed (sessionLog s (c ∷ cs))) → (x : ℕ) → List·Memᴰ x Demand.judgedFields
+    → (cond (isRefused (sessionLogged s c .refusal)) false (writesField x c) ≡ false) × (written x (fed (sessionLog (next s c) cs)) ≡ false)
+split-free s c cs n x m = both-false (cond (isRefused (sessionLogged s c .refusal)) false (writesField x c)) (written x (fed (sessionLog (next s c) cs))) (n x m)
 
-kept-after : (p : Capabilities) (s : Session) (cs : List Call) → AllWellTyped cs → Sound s → s .progress .phase ≢ 0 → Free (sessionLog s cs) → Kept p s
+kept-after : (p : Capabilities) (s : Session) (cs : List Call) → AllWellTyped cs → Sound s → s .progress .phase ≢ 0 → Free (fed (sessionLog s cs)) → Kept p s
     → Kept p (sessionAfter s cs)
 kept-after p s [] w h f n k = k
 kept-after p s (c ∷ cs) w h f n k =
     kept-after p (next s c) cs (w .1) (sound-step s c (w .0) h)
-    (λ e. phase-on (viewOf [] s) c (isRefused (sessionLogged s c .refusal)) f (sym (ap (λ (r : Reference). r .phase) (step [] s c (w .0) h .state)) ∙ e))
+    (λ e. phase-step (viewOf begun s) c (isRefused (sessionLogged s c .refusal)) f (sym (ap (λ (r : Reference). r .words .phase) (step begun s c (w .0) h .state)) ∙ e))
     (λ x m. split-free s c cs n x m .1) (step-kept p s c (w .0) f (λ x m. split-free s c cs n x m .0) k)
 
 -- ---- an accepted setup
@@ -243,7 +229,7 @@ kept-after p s (c ∷ cs) w h f n k =
 -- what acceptance says of the words
 consistent-kept : (m : CapabilityMsrs) → Typed m → consistent (capabilitiesOf m) ≡ true → Consistent (capabilitiesOf m)
 consistent-kept m fixed e =
-    let c = consistent-of m e in
+    let c = consistent-of (capabilitiesOf m) e in
     record {
       pairs = each c;
       cr0 = c .cr0;
@@ -253,12 +239,12 @@ consistent-kept m fixed e =
       cr4Fits = fixed .cr4fixed1;
     }
   where
-    each : Reference.Consistent m → (k : ℕ) → k < 5 → Within (pairAt (pairsOf m) k .allowed0) (pairAt (pairsOf m) k .allowed1)
+    each : Reference.Consistent (limitsOf m) → (k : ℕ) → k < 5 → Within (pairAt (pairsOf m) k .allowed0) (pairAt (pairsOf m) k .allowed1)
     each c zero h = c .pin
     each c (suc zero) h = c .primary
     each c (suc (suc zero)) h = c .secondary
-    each c (suc (suc (suc zero))) h = c .exits
-    each c (suc (suc (suc (suc zero)))) h = c .entries
+    each c (suc (suc (suc zero))) h = c .exit
+    each c (suc (suc (suc (suc zero)))) h = c .entry
     each c (suc (suc (suc (suc (suc k))))) h = absurd (omega arith)
 
 set-up-kept : (s t : Session) (x : Arguments) → Consistent (capabilitiesOf (x .msrs)) → SetUp s x t → Kept (capabilitiesOf (x .msrs)) t
@@ -304,7 +290,7 @@ setup-kept s block a b msr w h =
     P : Answered → Type 0
     P r = isRefused (r .refusal) ≡ false → Kept (capabilitiesOf (msrsOf block)) (r .session) × (r .session .progress .phase ≢ 0)
 
-pub permits-since : (block a b msr : List ℕ) (s : Session) (cs : List Call) → AllWellTyped cs → Sound s → Free (sessionLog s cs)
+pub permits-since : (block a b msr : List ℕ) (s : Session) (cs : List Call) → AllWellTyped cs → Sound s → Free (fed (sessionLog s cs))
     → List·Memᴰ (record { call = setup block a b msr; refused = false }) (fed (sessionLog s cs)) → Kept (capabilitiesOf (msrsOf block)) (sessionAfter s cs)
 permits-since block a b msr s [] w h n m = absurd (List·Memᴰ·not-nil m)
 permits-since block a b msr s (c ∷ cs) w h n m =
@@ -320,5 +306,23 @@ permits-since block a b msr s (c ∷ cs) w h n m =
 
 -- ---- what is claimed
 
-pub kept-permitted : (c : Capabilities) (s : Session) → Kept c s → AllPermitted c (s .vmcs)
-kept-permitted c s k = sound-permitted c (s .vmcs) (k .consistent) (k .fields .words)
+no-bit : (i : ℕ) → T (bit i 0) → ⊥
+no-bit i t = rw (bit-of-zero i) at t
+
+-- permitted by what the core keeps, and by the MSRs that setup was given
+permits-of : (m : CapabilityMsrs) (v : Vmcs) → AllPermitted (capabilitiesOf m) v → Permits (limitsOf m) v
+permits-of m v a =
+    record {
+      pin = a .pin;
+      primaryMust = a .primary .required;
+      primaryMay = a .primary .allowed;
+      window = a .window;
+      secondary = a .secondary;
+      exit = a .exit;
+      entry = a .entry;
+      cr0 = a .cr0;
+      cr4 = record { required = record { has = λ i t. a .cr4 .required i t (no-bit i) }; allowed = a .cr4 .allowed };
+    }
+
+pub kept-permits : (m : CapabilityMsrs) (s : Session) → Kept (capabilitiesOf m) s → Permits (limitsOf m) (s .vmcs)
+kept-permits m s k = permits-of m (s .vmcs) (sound-permitted (capabilitiesOf m) (s .vmcs) (k .consistent) (k .fields .words))

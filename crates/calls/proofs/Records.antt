@@ -7,7 +7,7 @@ use lib.ListN.{replicate}
 use lib.Dec.{eqb, lit<}
 use borrow.Author.Tests.{eqb-true}
 use Rattle.bits.specs.Words.{flag}
-use Rattle.vcpu_session.specs.Session.{newSession}
+use Rattle.vcpu_session.specs.Session.{newSession, isUnlawful}
 use Rattle.vcpu_session.specs.declared.Session.{Session}
 use Rattle.vcpu_events.specs.Queue as Queue
 use Rattle.vcpu_events.specs.Queue.{answered}
@@ -34,6 +34,7 @@ use Rattle.blocks.specs.ReportBlock.{reportOf}
 use Rattle.call_specs.specs.ReportCall.{ReportCall, reportAnswer, reportAccepts, reportCall}
 use Rattle.call_specs.specs.SetupCall.{setupAccepts, setupCall}
 use Rattle.calls.specs.Reference.{Call, setup, queueEvent, injectInterrupt, entry, exitReport, apicValue, fieldWrite, registerWrite, WellTyped, AllWellTyped}
+use Rattle.calls.specs.Moves.{begun}
 use Rattle.calls.specs.Calls.{reported, Outcome, plain, framed, numbered, entered, stepOf, waitingOf, after, historyOf, isRefused}
 use Rattle.calls.proofs.Choices.{cond-all, impossible}
 use Rattle.calls.proofs.Sessions.{hasBuffers, left, entering, sessionStep, next, sessionAfter, sessionLog, Sound}
@@ -56,6 +57,7 @@ holds-encoded s h =
 pub record Carried (b : List ℕ) (o : Outcome (List ℕ)) (p : Outcome Session) : Type 0 where
   pub refusal : o .refusal ≡ p .refusal
   pub answer : o .answer ≡ p .answer
+  pub resumed : o .resumed ≡ p .resumed
   pub state : Holds (o .state) (p .state)
   pub unchanged : isRefused (o .refusal) ≡ true → o .state ≡ b
 
@@ -65,24 +67,30 @@ unfolding callOf
 call-carried f b s m same h =
     rw (m .accepted, m .holds)
     (cond-all (λ (o : Encoded). Carried b (plain o) (left (f s))) (eqb (f s .refusal) 0) _ _
-    (λ t. record { refusal = sym (eqb-true _ _ t); answer = refl; state = holds-encoded (f s .session) h; unchanged = impossible })
-    (λ t. record { refusal = refl; answer = refl; state = record { accepted = m .accepted; holds = m .holds ∙ sym (same (ap not t)) }; unchanged = λ _. refl }))
+    (λ t. record { refusal = sym (eqb-true _ _ t); answer = refl; resumed = refl; state = holds-encoded (f s .session) h; unchanged = impossible })
+    (λ t. record { refusal = refl; answer = refl; resumed = refl; state = record { accepted = m .accepted; holds = m .holds ∙ sym (same (ap not t)) }; unchanged = λ _. refl }))
 
 numbered-back : (a : Injection) → numbered (injectionNumber a) ≡ a
 numbered-back Empty = refl
 numbered-back Held = refl
 numbered-back Written = refl
 
+flag-back : (b : Bool) → eqb (flag b) 1 ≡ b
+flag-back true = refl
+flag-back false = refl
+
 entry-carried : (stack : ℕ) (b : List ℕ) (s : Session) → Holds b s → (isRefused (Entry.entry s stack .refusal) ≡ true → Entry.entry s stack .session ≡ s)
-    → (isRefused (Entry.entry s stack .refusal) ≡ true → Entry.entry s stack .injection ≡ Empty) → Sound (Entry.entry s stack .session)
+    → (isRefused (Entry.entry s stack .refusal) ≡ true → Entry.entry s stack .injection ≡ Empty)
+    → (isRefused (Entry.entry s stack .refusal) ≡ true → Entry.entry s stack .resumed ≡ false) → Sound (Entry.entry s stack .session)
     → Carried b (entered (entryCall stack b 0 0)) (entering (Entry.entry s stack))
 unfolding entryCall
-entry-carried stack b s m same none h =
+entry-carried stack b s m same none launch h =
     rw (m .accepted, m .holds)
     (cond-all (λ (o : EntryCall). Carried b (entered o) (entering (Entry.entry s stack))) (eqb (Entry.entry s stack .refusal) 0) _ _
     (λ t. record {
       refusal = sym (eqb-true _ _ t);
       answer = numbered-back (Entry.entry s stack .injection);
+      resumed = flag-back (Entry.entry s stack .resumed);
       state = holds-encoded
           (Entry.entry s stack .session) h;
       unchanged = impossible;
@@ -90,6 +98,7 @@ entry-carried stack b s m same none h =
     (λ t. record {
       refusal = refl;
       answer = sym (none (ap not t));
+      resumed = sym (launch (ap not t));
       state = record {
         accepted = m .accepted;
         holds = m .holds ∙ sym
@@ -104,13 +113,17 @@ pub record Results (b : List ℕ) (stack resumed injection : ℕ) : Type 0 where
   pub bytes : entryCall stack b resumed injection .bytes ≡ stepOf b (entry stack) .state
   pub answer : isRefused (stepOf b (entry stack) .refusal) ≡ false
       → entryCall stack b resumed injection .injection ≡ injectionNumber (stepOf b (entry stack) .answer)
+  pub resumes : isRefused (stepOf b (entry stack) .refusal) ≡ false → entryCall stack b resumed injection .resumed ≡ flag (stepOf b (entry stack) .resumed)
+  -- a refused one stores nothing
+  pub left : isRefused (stepOf b (entry stack) .refusal) ≡ true
+      → entryCall stack b resumed injection ≡ entryAnswer (stepOf b (entry stack) .refusal) b resumed injection
 
 -- what the results held before does not matter
 pub entry-results : (stack resumed injection : ℕ) (b : List ℕ) → Results b stack resumed injection
 unfolding entryCall
 entry-results stack resumed injection b =
     let p = go (acceptedOf b) (eqb (Entry.entry (sessionOf b) stack .refusal) 0) refl in
-    record { refusal = p .0; bytes = p .1; answer = p .2 }
+    record { refusal = p .0; bytes = p .1; answer = p .2; resumes = p .3; left = p .4 }
   where
     o : Entered
     o = Entry.entry (sessionOf b) stack
@@ -125,9 +138,11 @@ entry-results stack resumed injection b =
     go : (t u : Bool) → eqb (o .refusal) 0 ≡ u
         → (made resumed injection t u .refusal ≡ made 0 0 t u .refusal) × (made resumed injection t u .bytes ≡ made 0 0 t u .bytes)
         × (isRefused (made 0 0 t u .refusal) ≡ false → made resumed injection t u .injection ≡ injectionNumber (numbered (made 0 0 t u .injection)))
-    go true true e = (refl, refl, λ _. ap injectionNumber (sym (numbered-back (o .injection))))
-    go true false e = (refl, refl, λ f. absurd (true≢false (sym (ap not e) ∙ f)))
-    go false u e = (refl, refl, λ f. absurd (true≢false f))
+        × (isRefused (made 0 0 t u .refusal) ≡ false → made resumed injection t u .resumed ≡ flag (eqb (made 0 0 t u .resumed) 1))
+        × (isRefused (made 0 0 t u .refusal) ≡ true → made resumed injection t u ≡ entryAnswer (made 0 0 t u .refusal) b resumed injection)
+    go true true e = (refl, refl, λ _. ap injectionNumber (sym (numbered-back (o .injection))), λ _. ap flag (sym (flag-back (o .resumed))), impossible)
+    go true false e = (refl, refl, λ f. absurd (true≢false (sym (ap not e) ∙ f)), λ f. absurd (true≢false (sym (ap not e) ∙ f)), λ _. refl)
+    go false u e = (refl, refl, λ f. absurd (true≢false f), λ f. absurd (true≢false f), λ _. refl)
 
 setup-carried : (block a c msr : List ℕ) (b : List ℕ) (s : Session) → Holds b s
     → (isRefused (sessionStep s (setup block a c msr) .refusal) ≡ true → next s (setup block a c msr) ≡ s) → Sound (next s (setup block a c msr))
@@ -146,10 +161,11 @@ setup-carried block a c msr b s m = rw (m .accepted, m .holds) (go (hasBuffers b
         → Carried b (framed (cond t (y x) (framesCall 2 b a c msr))) (left (cond t x (answered 2 s)))
     go true same h =
         cond-all (λ (o : FramesCall). Carried b (framed o) (left x)) (eqb (x .refusal) 0) _ _
-        (λ t. record { refusal = sym (eqb-true _ _ t); answer = refl; state = holds-encoded (x .session) h; unchanged = impossible })
+        (λ t. record { refusal = sym (eqb-true _ _ t); answer = refl; resumed = refl; state = holds-encoded (x .session) h; unchanged = impossible })
         (λ t. record {
           refusal = refl;
           answer = refl;
+          resumed = refl;
           state = record {
             accepted = m .accepted;
             holds = m .holds ∙ sym
@@ -157,7 +173,27 @@ setup-carried block a c msr b s m = rw (m .accepted, m .holds) (go (hasBuffers b
           };
           unchanged = λ _. refl;
         })
-    go false same h = record { refusal = refl; answer = refl; state = m; unchanged = λ _. refl }
+    go false same h = record { refusal = refl; answer = refl; resumed = refl; state = m; unchanged = λ _. refl }
+
+-- a refused setup leaves every buffer
+pub setup-left : (block a c msr b : List ℕ) → isRefused (setupCall b block a c msr .refusal) ≡ true
+    → setupCall b block a c msr ≡ framesCall (setupCall b block a c msr .refusal) b a c msr
+unfolding setupCall
+setup-left block a c msr b = go (setupAccepts b block a c msr) (eqb (o .refusal) 0)
+  where
+    o : Answered
+    o = setupOf (sessionOf b) (argumentsOf block)
+
+    made : Bool → Bool → FramesCall
+    made t u =
+        cond t
+        (cond u (framesCall 0 (encodeOf (o .session)) (ioBitmapSet a c .a) (ioBitmapSet a c .b) (msrBitmapSet msr .frame)) (framesCall (o .refusal) b a c msr))
+        (framesCall 2 b a c msr)
+
+    go : (t u : Bool) → isRefused (made t u .refusal) ≡ true → made t u ≡ framesCall (made t u .refusal) b a c msr
+    go true true e = impossible e
+    go true false e = refl
+    go false u e = refl
 
 report-carried : (block b : List ℕ) (s : Session) → Holds b s
     → (isRefused (sessionStep s (exitReport block) .refusal) ≡ true → next s (exitReport block) ≡ s) → Sound (next s (exitReport block))
@@ -178,19 +214,21 @@ report-carried block b s m = rw (m .accepted, m .holds) (go (Report.blockAccepte
         → Carried b (reported (cond t y (reportAnswer 2 b (replicate 8 0)))) (left (cond t x (answered 2 s)))
     go true same h =
         cond-all (λ (o : ReportCall). Carried b (reported o) (left x)) (eqb (x .refusal) 0) _ _
-        (λ t. record { refusal = sym (eqb-true _ _ t); answer = refl; state = holds-encoded (x .session) h; unchanged = impossible })
+        (λ t. record { refusal = sym (eqb-true _ _ t); answer = refl; resumed = refl; state = holds-encoded (x .session) h; unchanged = impossible })
         (λ t. record {
           refusal = refl;
           answer = refl;
+          resumed = refl;
           state = record { accepted = m .accepted; holds = m .holds ∙ sym (same (ap not t)) };
           unchanged = λ _. refl;
         })
-    go false same h = record { refusal = refl; answer = refl; state = m; unchanged = λ _. refl }
+    go false same h = record { refusal = refl; answer = refl; resumed = refl; state = m; unchanged = λ _. refl }
 
--- what the answer held before does not matter
+-- what the answer held before does not matter, and a refused report leaves it
 pub report-results : (block words b : List ℕ)
-    → (reportCall b block words .refusal ≡ reportCall b block (replicate 8 0) .refusal) ×
-    (reportCall b block words .bytes ≡ reportCall b block (replicate 8 0) .bytes)
+    → (reportCall b block words .refusal ≡ reportCall b block (replicate 8 0) .refusal)
+    × (reportCall b block words .bytes ≡ reportCall b block (replicate 8 0) .bytes)
+    × (isRefused (reportCall b block (replicate 8 0) .refusal) ≡ true → reportCall b block words ≡ reportAnswer (reportCall b block (replicate 8 0) .refusal) b words)
 unfolding reportCall
 report-results block words b = go (reportAccepts b block) (eqb (o .refusal) 0)
   where
@@ -201,28 +239,40 @@ report-results block words b = go (reportAccepts b block) (eqb (o .refusal) 0)
     made w t u = cond t (cond u (reportAnswer 0 (encodeOf (o .session)) (answerWords (o .answer))) (reportAnswer (o .refusal) b w)) (reportAnswer 2 b w)
 
     go : (t u : Bool) → (made words t u .refusal ≡ made (replicate 8 0) t u .refusal) × (made words t u .bytes ≡ made (replicate 8 0) t u .bytes)
-    go true true = (refl, refl)
-    go true false = (refl, refl)
-    go false u = (refl, refl)
+        × (isRefused (made (replicate 8 0) t u .refusal) ≡ true → made words t u ≡ reportAnswer (made (replicate 8 0) t u .refusal) b words)
+    go true true = (refl, refl, impossible)
+    go true false = (refl, refl, λ _. refl)
+    go false u = (refl, refl, λ _. refl)
+
+-- a refused entry says that it does not resume
+no-launch : (s : Session) (stack : ℕ) → isRefused (Entry.entry s stack .refusal) ≡ true → Entry.entry s stack .resumed ≡ false
+unfolding Entry.entry
+no-launch s stack =
+    cond-all P (isUnlawful s) _ _ (λ _ _. refl)
+    (λ _. cond-all P (not (eqb (s .progress .phase) 1)) _ _ (λ _ _. refl)
+    (λ _. cond-all P (eqb (s .progress .entries) 4294967295) _ _ (λ _ _. refl) (λ _. impossible)))
+  where
+    P : Entered → Type 0
+    P a = isRefused (a .refusal) ≡ true → a .resumed ≡ false
 
 pub carried : (b : List ℕ) (s : Session) (c : Call) → WellTyped c → Holds b s → Sound s → Carried b (stepOf b c) (sessionStep s c)
 carried b s (setup block a d msr) w m h =
-    setup-carried block a d msr b s m (step [] s (setup block a d msr) w h .unchanged) (sound-step s (setup block a d msr) w h)
+    setup-carried block a d msr b s m (step begun s (setup block a d msr) w h .unchanged) (sound-step s (setup block a d msr) w h)
 carried b s (queueEvent vector coded code) w m h =
-    call-carried (queueStep vector coded code) b s m (step [] s (queueEvent vector coded code) w h .unchanged) (sound-step s (queueEvent vector coded code) w h)
+    call-carried (queueStep vector coded code) b s m (step begun s (queueEvent vector coded code) w h .unchanged) (sound-step s (queueEvent vector coded code) w h)
 carried b s (injectInterrupt vector) w m h =
-    call-carried (λ t. Queue.injectInterrupt t vector) b s m (step [] s (injectInterrupt vector) w h .unchanged) (sound-step s (injectInterrupt vector) w h)
+    call-carried (λ t. Queue.injectInterrupt t vector) b s m (step begun s (injectInterrupt vector) w h .unchanged) (sound-step s (injectInterrupt vector) w h)
 carried b s (entry stack) w m h =
-    let t = step [] s (entry stack) w h in
-    entry-carried stack b s m (t .unchanged) (λ r. t .answer ∙ rw r) (sound-step s (entry stack) w h)
-carried b s (exitReport block) w m h = report-carried block b s m (step [] s (exitReport block) w h .unchanged) (sound-step s (exitReport block) w h)
+    let t = step begun s (entry stack) w h in
+    entry-carried stack b s m (t .unchanged) (λ r. t .answer ∙ rw r) (no-launch s stack) (sound-step s (entry stack) w h)
+carried b s (exitReport block) w m h = report-carried block b s m (step begun s (exitReport block) w h .unchanged) (sound-step s (exitReport block) w h)
 carried b s (apicValue value) w m h =
-    call-carried (λ t. Access.apicValue t value) b s m (step [] s (apicValue value) w h .unchanged) (sound-step s (apicValue value) w h)
+    call-carried (λ t. Access.apicValue t value) b s m (step begun s (apicValue value) w h .unchanged) (sound-step s (apicValue value) w h)
 carried b s (fieldWrite encoding value) w m h =
-    call-carried (λ t. Access.writeField t encoding value) b s m (step [] s (fieldWrite encoding value) w h .unchanged)
+    call-carried (λ t. Access.writeField t encoding value) b s m (step begun s (fieldWrite encoding value) w h .unchanged)
     (sound-step s (fieldWrite encoding value) w h)
 carried b s (registerWrite index value) w m h =
-    call-carried (λ t. Access.setRegister t index value) b s m (step [] s (registerWrite index value) w h .unchanged)
+    call-carried (λ t. Access.setRegister t index value) b s m (step begun s (registerWrite index value) w h .unchanged)
     (sound-step s (registerWrite index value) w h)
 
 -- ---- a list of calls

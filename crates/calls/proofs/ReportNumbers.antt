@@ -30,14 +30,14 @@ use Rattle.vcpu_exit.specs.Reading.{isApic, registerOf, movedValue, isMoveTo, t
 use Rattle.vcpu_exit.specs.Refusal.{unknownReason, ownedBitsDiffer, noInterrupt, otherAccess, otherXcr, eferRefusal, entryPair, exitRefusal, reportRefusal}
 use Rattle.vcpu_exit.specs.declared.Report.{Report}
 use Rattle.vcpu_report.specs.ExitReport.{phaseAfter}
-use Rattle.calls.specs.Reference.{choose, both, either, Event, basicReason, ecxOf, NamesApic, namesApic, waits, Agree, MovesTo, movedBy, advance, UnknownReason, SetsIa32e, exitRules, reportRules}
-use Rattle.calls.specs.Calls.{viewOf, guardedOf}
+use Rattle.calls.specs.Reference.{choose, both, either, basicReason, ecxOf, NamesApic, namesApic, waits, Agree, MovesTo, movedBy, advance, UnknownReason, SetsIa32e, exitRules, reportRules}
+use Rattle.calls.specs.Calls.{wordsOf}
 use Rattle.calls.proofs.Choices.{chosen}
 
 -- ---- tests that tell
 
 -- a test and a decision of one thing choose alike
-picks : {A C : Type 0} {t : Bool} → Tells t C → (d : Dec C) (x y : A) → cond t x y ≡ choose d x y
+pub picks : {A C : Type 0} {t : Bool} → Tells t C → (d : Dec C) (x y : A) → cond t x y ≡ choose d x y
 picks {t = t} p d x y = chosen d t x y (p .yes-so) (p .not-so)
 
 -- ---- what the words say
@@ -54,11 +54,11 @@ phase-agrees r = join (eqb (basicReason r) 31) (isApic (r .regs .rcx)) ∙ picks
     join true b = refl
     join false b = refl
 
-move-tells : (r : Report) (n : ℕ) → Tells (isMoveTo r n) (MovesTo n r)
+pub move-tells : (r : Report) (n : ℕ) → Tells (isMoveTo r n) (MovesTo n r)
 unfolding isMoveTo
 move-tells r n = tells-and (tells-eq (r .qualification / 2 ^ 4 % 4) 0) (tells-eq (r .qualification % 2 ^ 4) n)
 
-moved-agrees : (r : Report) → movedValue r ≡ movedBy r
+pub moved-agrees : (r : Report) → movedValue r ≡ movedBy r
 unfolding movedValue registerOf
 moved-agrees r =
     let i = r .qualification / 2 ^ 8 % 2 ^ 4 in
@@ -123,11 +123,10 @@ agree-tells mask a b =
     go i false e h = and-false (bit i a) ∙ sym (and-false (bit i b))
 
 differ-tells : (s : Session) (r : Report)
-    → Tells (ownedBitsDiffer (s .vmcs) r) (Agree (guardedOf s .cr0mask) (r .cr0) (guardedOf s .cr0) × Agree (guardedOf s .cr4mask) (r .cr4)
-    (guardedOf s .cr4) → ⊥)
+    → Tells (ownedBitsDiffer (s .vmcs) r) (Agree (wordsOf s .cr0mask) (r .cr0) (wordsOf s .cr0) × Agree (wordsOf s .cr4mask) (r .cr4) (wordsOf s .cr4) → ⊥)
 unfolding ownedBitsDiffer
 differ-tells s r =
-    let g = guardedOf s in
+    let g = wordsOf s in
     tells-is (joined (eqb (bitAnd (r .cr0) (g .cr0mask)) (bitAnd (g .cr0) (g .cr0mask))) (eqb (bitAnd (r .cr4) (g .cr4mask)) (bitAnd (g .cr4) (g .cr4mask))))
     (tells-not (tells-and (agree-tells (g .cr0mask) (r .cr0) (g .cr0)) (agree-tells (g .cr4mask) (r .cr4) (g .cr4))))
   where
@@ -148,7 +147,7 @@ interrupt-tells r =
     tells-and (tells-eq (basicReason r) 1)
     (tells-or (tells-off (bit 31 (r .interruption))) (tells-is (ap (λ (n : ℕ). eqb n 1) (type-number k (omega arith))) (tells-eq k 1)))
 
-access-tells : (r : Report) → Tells (otherAccess r) ((basicReason r ≡ 28) × (MovesTo 0 r ⊎ MovesTo 4 r → ⊥))
+pub access-tells : (r : Report) → Tells (otherAccess r) ((basicReason r ≡ 28) × (MovesTo 0 r ⊎ MovesTo 4 r → ⊥))
 unfolding otherAccess
 access-tells r = tells-and (tells-eq (basicReason r) 28) (tells-not (tells-or (move-tells r 0) (move-tells r 4)))
 
@@ -207,14 +206,14 @@ efer-number pair entry r = go (turnsPagingOn r) (isLongMode (r .efer)) (lacksIa3
 
 -- ---- the ladder
 
-module _ (j : List Event) (s : Session) (r : Report) (l : Lawful s) where
+module _ (s : Session) (r : Report) (l : Lawful s) where
   abbrev pair : Pair
   pair = entryPair (s .capabilities)
 
   abbrev entryWord : ℕ
   entryWord = valueOf (s .vmcs) VmcsControl32.VMENTRY_CONTROLS
 
-  exit-refuses : Refuses (exitRules (viewOf j s) (guardedOf s) r) (cond (ownedBitsDiffer (s .vmcs) r) 15 (exitRefusal pair entryWord r))
+  exit-refuses : Refuses (exitRules (wordsOf s) r) (cond (ownedBitsDiffer (s .vmcs) r) 15 (exitRefusal pair entryWord r))
   unfolding exitRefusal
   exit-refuses =
       ladder
@@ -224,12 +223,13 @@ module _ (j : List Event) (s : Session) (r : Report) (l : Lawful s) where
       (subst (Refuses (by 8 (SetsIa32e r × (bit 9 (pair .allowed1) ≡ false)) ∷ [])) (sym (efer-number pair entryWord r))
       (ladder (rung 8 (stuck-tells pair r) ∷ []) [] 0 refl))
 
-  pub report-refuses : Refuses (reportRules (viewOf j s) (guardedOf s) r) (reportRefusal s r)
+  pub report-refuses : Refuses (reportRules (wordsOf s) r) (reportRefusal s r)
   unfolding reportRefusal
   report-refuses =
       rw (of-lawful s l)
-      (ladder (rung 1 (tells-not (tells-eq (s .progress .phase) 2)) ∷ rung 14 (unknown-tells r) ∷ []) _ _ (ended (bit 31 (r .reason))))
+      (ladder (rung 1 (tells-not (tells-eq (s .progress .phase) 2)) ∷ rung 14 (unknown-tells r) ∷ [])
+      (cond (bit 31 (r .reason)) [] (exitRules (wordsOf s) r)) _ (ended (bit 31 (r .reason))))
     where
-      ended : (f : Bool) → Refuses (cond f [] (exitRules (viewOf j s) (guardedOf s) r)) (cond f 0 (cond (ownedBitsDiffer (s .vmcs) r) 15 (exitRefusal pair entryWord r)))
+      ended : (f : Bool) → Refuses (cond f [] (exitRules (wordsOf s) r)) (cond f 0 (cond (ownedBitsDiffer (s .vmcs) r) 15 (exitRefusal pair entryWord r)))
       ended true = refl
       ended false = exit-refuses

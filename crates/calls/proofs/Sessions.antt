@@ -1,7 +1,7 @@
 -- The same calls on sessions, and what holds of every session that they lead to. Assumes nothing.
 use Prim.Native.Nat.{ℕ}
 use mathlib.Core.Path.{_≡_, sym, _∙_}
-use mathlib.Core.Bool.{Bool, cond, _&&_}
+use mathlib.Core.Bool.{Bool, false, cond, _&&_}
 use mathlib.Core.List.{List}
 use lib.Dec.{eqb}
 use lib.ListN.{length}
@@ -31,10 +31,10 @@ abbrev pub hasBuffers : List ℕ → List ℕ → List ℕ → List ℕ → Bool
 hasBuffers block a b msr = blockAccepted block && eqb (length a) 4096 && eqb (length b) 4096 && eqb (length msr) 4096
 
 abbrev pub left : Answered → Outcome Session
-left r = record { refusal = r .refusal; answer = Empty; state = r .session }
+left r = record { refusal = r .refusal; answer = Empty; resumed = false; state = r .session }
 
 abbrev pub entering : Entered → Outcome Session
-entering r = record { refusal = r .refusal; answer = r .injection; state = r .session }
+entering r = record { refusal = r .refusal; answer = r .injection; resumed = r .resumed; state = r .session }
 
 -- the report that a block spells: its number and the session. 2: a wrong length
 abbrev pub reportStep : List ℕ → Session → Answered

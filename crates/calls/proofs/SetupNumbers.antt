@@ -1,28 +1,33 @@
 -- Setup is refused exactly where the reference's rules say. Assumes nothing.
 use Prim.Native.Nat.{ℕ, _+_, _*_}
-use mathlib.Core.Path.{_≡_, refl, sym, _∙_, subst}
+use mathlib.Core.Path.{_≡_, refl, sym, ap, _∙_, subst}
 use mathlib.Core.Bool.{Bool, true, false, cond, not, _&&_, true≢false, false≢true}
 use mathlib.Core.List.{List, [], _∷_, _++_}
 use mathlib.Core.Logic.{_≢_, inl, inr}
 use lib.Bits.{bitAnd}
 use lib.Dec.{eqb, leb}
 use lib.ListN.{length, drop}
-use borrow.Author.Tests.{eqb-true, eqb-false, leb-true, not-true, not-false, eq-eqb, le-leb}
-use Rattle.bits.specs.Words.{flag, low32, high32, Within}
+use borrow.Author.Tests.{eqb-true, leb-true, eq-eqb, le-leb}
+use Rattle.bits.specs.Refuses.{Rule, by, Refuses}
+use Rattle.bits.specs.Words.{flag, Within, Apart}
 use Rattle.bits.specs.LittleEndian.{littleEndian}
+use Rattle.bits.proofs.Tells.{Tells, tells-eq, tells-not, tells-as, rung, ladder}
 use Rattle.bits.proofs.WordLaws as W
+use Rattle.vmcs.specs.Control.{pairAt}
+use Rattle.vmcs.specs.declared.controls.Pair.{Pair}
 use Rattle.vcpu_session.specs.Session.{Lawful}
 use Rattle.vcpu_session.proofs.LawfulLaws.{of-lawful}
+use Rattle.vcpu_session.specs.declared.Capabilities.{Capabilities}
 use Rattle.vcpu_session.specs.declared.Session.{Session}
-use Rattle.vcpu_setup.specs.Capability.{halves, pairsOf, capabilitiesOf}
+use Rattle.vcpu_setup.specs.Capability.{capabilitiesOf}
 use Rattle.vcpu_setup.specs.Words.{secondarySet, bitsRefusal, orElse, wordsRefusal}
-use Rattle.vcpu_setup.specs.Setup.{consistent, setupRefusal}
+use Rattle.vcpu_setup.specs.Setup.{consistent, capabilityRefusal, setupRefusal}
 use Rattle.vcpu_setup.specs.declared.CapabilityMsrs.{CapabilityMsrs}
 use Rattle.vcpu_setup.specs.declared.Features.{Features}
 use Rattle.blocks.specs.SetupLayout as Layout
 use Rattle.blocks.specs.SetupBlock.{blockAccepted}
-use Rattle.bits.specs.Refuses.{Rule, by, Refuses}
-use Rattle.calls.specs.Reference.{Buffers, Consistent, wordRules, setupRules}
+use Rattle.calls.specs.Reference.{Buffers, limitsOf, Consistent, wordRules, setupRules}
+use Rattle.calls.specs.Calls.{pairBounds, limitsIn}
 use Rattle.calls.proofs.Choices.{cond-all}
 use Rattle.calls.proofs.Sessions.{hasBuffers}
 
@@ -70,50 +75,57 @@ of-buffers block a b msr l =
 
 -- ---- 6
 
-pub consistent-of : (m : CapabilityMsrs) → consistent (capabilitiesOf m) ≡ true → Consistent m
+pub consistent-of : (c : Capabilities) → consistent c ≡ true → Consistent (limitsIn c)
 unfolding consistent
-consistent-of m e =
+consistent-of c e =
     let p = seven _ _ _ _ _ _ _ e in
     record {
       pin = W.within-of _ _ (eqb-true _ _ (p .0));
       primary = W.within-of _ _ (eqb-true _ _ (p .1));
       secondary = W.within-of _ _ (eqb-true _ _ (p .2));
-      exits = W.within-of _ _ (eqb-true _ _ (p .3));
-      entries = W.within-of _ _ (eqb-true _ _ (p .4));
+      exit = W.within-of _ _ (eqb-true _ _ (p .3));
+      entry = W.within-of _ _ (eqb-true _ _ (p .4));
       cr0 = W.within-of _ _ (eqb-true _ _ (p .5));
       cr4 = W.within-of _ _ (eqb-true _ _ (p .6));
     }
 
-of-consistent : (m : CapabilityMsrs) → Consistent m → consistent (capabilitiesOf m) ≡ true
+of-consistent : (c : Capabilities) → Consistent (limitsIn c) → consistent c ≡ true
 unfolding consistent
-of-consistent m c =
+of-consistent c l =
     rw (
-      W.within-test _ _ (c .pin),
-      W.within-test _ _ (c .primary),
-      W.within-test _ _ (c .secondary),
-      W.within-test _ _ (c .exits),
-      W.within-test _ _ (c .entries),
-      W.within-test _ _ (c .cr0),
-      W.within-test _ _ (c .cr4),
+      W.within-test _ _ (l .pin),
+      W.within-test _ _ (l .primary),
+      W.within-test _ _ (l .secondary),
+      W.within-test _ _ (l .exit),
+      W.within-test _ _ (l .entry),
+      W.within-test _ _ (l .cr0),
+      W.within-test _ _ (l .cr4),
     )
+
+consistent-tells : (c : Capabilities) → Tells (consistent c) (Consistent (limitsIn c))
+consistent-tells c = record { yes-so = consistent-of c; not-so = λ e l. true≢false (sym (of-consistent c l) ∙ e) }
 
 -- ---- 8 and 9, word by word
 
-word-refuses : (msr set clear n : ℕ) (rest : List Rule) → Refuses rest n
-    → Refuses (wordRules msr set clear ++ rest) (orElse (bitsRefusal (halves msr) set clear) n)
-unfolding orElse bitsRefusal
-word-refuses msr set clear n rest w =
-    cond-all P (not (eqb (bitAnd set (high32 msr)) set)) 8 _
-    (λ t. inl (λ i. true≢false (sym (W.within-test set (high32 msr) i) ∙ not-true _ t), refl))
-    (λ t. cond-all P (not (eqb (bitAnd (low32 msr) clear) 0)) 9 0
-    (λ u. inr (λ i. i (within t), inl (λ i. true≢false (sym (W.apart-test (low32 msr) clear i) ∙ not-true _ u), refl)))
-    (λ u. inr (λ i. i (within t), inr (λ i. i (W.apart-of _ _ (eqb-true _ _ (not-false _ u))), w))))
-  where
-    P : ℕ → Type 0
-    P m = Refuses (wordRules msr set clear ++ rest) (cond (eqb m 0) n m)
+within-tells : (a b : ℕ) → Tells (eqb (bitAnd a b) a) (Within a b)
+within-tells a b = tells-as (tells-eq (bitAnd a b) a) (W.within-of a b) (W.within-eq a b)
 
-    within : not (eqb (bitAnd set (high32 msr)) set) ≡ false → Within set (high32 msr)
-    within t = W.within-of _ _ (eqb-true _ _ (not-false _ t))
+apart-tells : (a b : ℕ) → Tells (eqb (bitAnd a b) 0) (Apart a b)
+apart-tells a b = tells-as (tells-eq (bitAnd a b) 0) (W.apart-of a b) (W.apart-eq a b)
+
+word-refuses : (p : Pair) (set clear n : ℕ) (rest : List Rule) → Refuses rest n
+    → Refuses (wordRules (pairBounds p) set clear ++ rest) (orElse (bitsRefusal p set clear) n)
+unfolding orElse bitsRefusal
+word-refuses p set clear n rest w =
+    let eight = not (eqb (bitAnd set (p .allowed1)) set) in
+    let nine = not (eqb (bitAnd (p .allowed0) clear) 0) in
+    rw (joined eight nine n)
+    (ladder (rung 8 (tells-not (within-tells set (p .allowed1))) ∷ rung 9 (tells-not (apart-tells (p .allowed0) clear)) ∷ []) rest n w)
+  where
+    joined : (a b : Bool) (n : ℕ) → cond (eqb (cond a 8 (cond b 9 0)) 0) n (cond a 8 (cond b 9 0)) ≡ cond a 8 (cond b 9 n)
+    joined true b n = refl
+    joined false true n = refl
+    joined false false n = refl
 
 or-none : (a : ℕ) → orElse a 0 ≡ a
 unfolding orElse
@@ -132,41 +144,45 @@ secondary-set f = go (f .rdtscp) (f .invpcid) (f .xsaves)
     go false false true = refl
     go false false false = refl
 
-words-refuse : (m : CapabilityMsrs) (f : Features) → Consistent m → Refuses (setupRules m f) (wordsRefusal (pairsOf m) f)
-unfolding wordsRefusal
-words-refuse m f c =
-    let number : ℕ → ℕ → ℕ → ℕ = λ msr set clear. bitsRefusal (halves msr) set clear in
-    let l5 = wordRules (m .trueentry) 0xC000 0 in
-    let n5 = number (m .trueentry) 0xC000 0 in
-    let l4 = wordRules (m .trueexit) 0x3C8200 0 ++ l5 in
-    let n4 = orElse (number (m .trueexit) 0x3C8200 0) n5 in
-    let l3 = wordRules (m .procbased2) (secondarySet f) 0 ++ l4 in
-    let n3 = orElse (number (m .procbased2) (secondarySet f) 0) n4 in
-    let l2 = wordRules (m .trueprocbased) 0x92000000 0x198000 ++ l3 in
-    let n2 = orElse (number (m .trueprocbased) 0x92000000 0x198000) n3 in
-    rw (← (secondary-set f))
-    (inr (
-      λ n. n c,
-      word-refuses (m .truepinbased) 0x9 0 n2 l2
-          (word-refuses (m .trueprocbased) 0x92000000 0x198000 n3 l3
-          (word-refuses (m .procbased2) (secondarySet f) 0 n4 l4
-          (word-refuses (m .trueexit) 0x3C8200 0 n5 l5
-          (subst (Refuses l5) (or-none n5) (word-refuses (m .trueentry) 0xC000 0 0 [] refl))))),
-    ))
+-- a word that setup asks for: its pair, what is set and what is cleared
+record Asked : Type 0 where
+  pair : Pair
+  set : ℕ
+  clear : ℕ
 
-pub setup-refuses : (s : Session) (m : CapabilityMsrs) (f : Features) → Lawful s
-    → Refuses (by 1 (s .progress .phase ≢ 0) ∷ setupRules m f) (setupRefusal s (capabilitiesOf m) f)
+abbrev asked : Pair → ℕ → ℕ → Asked
+asked p set clear = record { pair = p; set = set; clear = clear }
+
+abbrev rulesFor : List Asked → List Rule
+rulesFor [] = []
+rulesFor (a ∷ rest) = wordRules (pairBounds (a .pair)) (a .set) (a .clear) ++ rulesFor rest
+
+abbrev numberFor : List Asked → ℕ
+numberFor [] = 0
+numberFor (a ∷ rest) = orElse (bitsRefusal (a .pair) (a .set) (a .clear)) (numberFor rest)
+
+each-refuses : (rest : List Asked) → Refuses (rulesFor rest) (numberFor rest)
+each-refuses [] = refl
+each-refuses (a ∷ rest) = word-refuses (a .pair) (a .set) (a .clear) (numberFor rest) (rulesFor rest) (each-refuses rest)
+
+words-refuse : (c : Capabilities) (f : Features) → Consistent (limitsIn c) → Refuses (setupRules (limitsIn c) f) (wordsRefusal (c .pairs) f)
+unfolding wordsRefusal
+words-refuse c f ok =
+    let p : ℕ → Pair = pairAt (c .pairs) in
+    let n : ℕ → ℕ → ℕ → ℕ = λ k set clear. bitsRefusal (p k) set clear in
+    let five = asked (p 0) 0x9 0 ∷ asked (p 1) 0x92000000 0x198000 ∷ asked (p 2) (secondarySet f) 0 ∷ asked (p 3) 0x3C8200 0 ∷ asked (p 4) 0xC000 0 ∷ [] in
+    let last : ℕ → ℕ = λ m. orElse (n 0 0x9 0) (orElse (n 1 0x92000000 0x198000) (orElse (n 2 (secondarySet f) 0) (orElse (n 3 0x3C8200 0) m))) in
+    rw (← (secondary-set f)) (inr (λ b. b ok, subst (Refuses (rulesFor five)) (ap last (or-none (n 4 0xC000 0))) (each-refuses five)))
+
+pub setup-refuses : (s : Session) (c : Capabilities) (f : Features) → Lawful s
+    → Refuses (by 1 (s .progress .phase ≢ 0) ∷ setupRules (limitsIn c) f) (setupRefusal s c f)
 unfolding setupRefusal
-setup-refuses s m f l =
+setup-refuses s c f l =
     rw (of-lawful s l)
-    (cond-all P (not (eqb (s .progress .phase) 0)) _ _
-    (λ t. inl (eqb-false _ _ (not-true _ t), refl))
-    (λ t. inr (
-      λ n. n (eqb-true _ _ (not-false _ t)),
-      cond-all (Refuses (setupRules m f)) (consistent (capabilitiesOf m)) _ _
-          (λ u. words-refuse m f (consistent-of m u))
-          (λ u. inl (λ c. true≢false (sym (of-consistent m c) ∙ u), refl)),
-    )))
-  where
-    P : ℕ → Type 0
-    P = Refuses (by 1 (s .progress .phase ≢ 0) ∷ setupRules m f)
+    (ladder (rung 1 (tells-not (tells-eq (s .progress .phase) 0)) ∷ []) (setupRules (limitsIn c) f) (capabilityRefusal c f)
+    (cond-all (Refuses (setupRules (limitsIn c) f)) (consistent c) _ _ (λ u. words-refuse c f (consistent-of c u))
+    (λ u. inl (consistent-tells c .not-so u, refl))))
+
+-- the limits that the core takes from the MSRs are the reference's
+pub same-limits : (m : CapabilityMsrs) → limitsIn (capabilitiesOf m) ≡ limitsOf m
+same-limits m = refl

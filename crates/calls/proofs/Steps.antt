@@ -10,17 +10,21 @@ use native.Mathlib.Nat.{add-zero}
 use native.Mathlib.Numerals.{add-one}
 use lib.ListN.{length, getD, take, drop, set}
 use lib.Seq.{take-suc-set, length-take-le}
+use lib.Bits.{bitAnd, bitOr}
 use lib.Dec.{eqb, ltb, leb, lit<, eqb·suc-zero}
 use borrow.Author.Tests.{eqb-true, eqb-false, leb-true, leb-false, ltb-true, ltb-false, not-true, not-false, eq-eqb, ne-eqb, le-leb}
-use Rattle.bits.specs.Words.{bit, withBit, high32}
-use Rattle.vmcs.specs.Control.{pairAt}
-use Rattle.vmcs.specs.Field.{valueOf, put}
+use Rattle.bits.specs.Words.{bit, bitNot, withBit, low32, high32}
+use Rattle.bits.proofs.BitLaws.{bit-and, bit-or, bit-not}
+use Rattle.vmcs.specs.Control.{controlWord}
+use Rattle.vmcs.specs.Field.{Field, placeOf, sizeOf, valueOf, put}
 use Rattle.vmcs.specs.declared.Vmcs.{Vmcs}
 use Rattle.vmcs.specs.Fields.{positionOf, fieldAt, fieldOf, widthOf, greatestOf, vmcsWrite}
 use Rattle.vmcs.specs.Named.{named, encodings}
 use Rattle.vmcs.specs.Names.VmcsControl32 as VmcsControl32
+use Rattle.vmcs.specs.Names.VmcsControlNW as VmcsControlNW
 use Rattle.vmcs.specs.Names.VmcsGuest32 as VmcsGuest32
 use Rattle.vmcs.specs.Names.VmcsGuestNW as VmcsGuestNW
+use Rattle.vmcs.specs.Names.VmcsReadOnly32 as VmcsReadOnly32
 use Rattle.vmcs.specs.declared.Written.{Written as FieldsWritten}
 use Rattle.vmcs.proofs.TableTest.{table}
 use Rattle.regs.specs.Registers.{withRegOfIndex}
@@ -31,7 +35,7 @@ use Rattle.vcpu_session.proofs.LawfulLaws.{of-lawful}
 use Rattle.vcpu_events.specs.Queue as Queue
 use Rattle.vcpu_events.specs.Queue.{answered, pushed, popped, frontOf}
 use Rattle.vcpu_events.specs.Entry as Entry
-use Rattle.vcpu_events.specs.Entry.{injectionOf, afterEntry, progressAfter, queueAfter, vmcsAfter, withStack, injected}
+use Rattle.vcpu_events.specs.Entry.{injectionOf, afterEntry, progressAfter, queueAfter, vmcsAfter, windowSet, withStack}
 use Rattle.vcpu_events.specs.declared.Event as Core
 use Rattle.vcpu_events.specs.declared.Answered.{Answered}
 use Rattle.vcpu_events.specs.declared.Entered.{Entered}
@@ -44,95 +48,104 @@ use Rattle.vcpu_setup.specs.Writes.{setupWrites}
 use Rattle.vcpu_setup.specs.declared.Arguments.{Arguments}
 use Rattle.vcpu_setup.specs.declared.CapabilityMsrs.{CapabilityMsrs}
 use Rattle.vcpu_session.specs.declared.Capabilities.{Capabilities}
-use Rattle.vmcs.specs.Writes.{lastOf}
-use Rattle.vcpu_setup.specs.Laws.{Typed}
+use Rattle.vmcs.specs.Writes.{Sized}
+use Rattle.vcpu_setup.specs.Capability.{capabilitiesOf}
+use Rattle.vcpu_setup.specs.Laws.{Typed, SetUp}
+use Rattle.vcpu_setup.specs.Words.{primarySet, primaryClear, setupWords}
 use Rattle.vcpu_setup.proofs.SetupLaws.{set-up, setup-number, refused-keeps}
+use Rattle.vcpu_exit.specs.Reading.{failed}
 use Rattle.vcpu_exit.specs.Refusal.{reportRefusal}
+use Rattle.vcpu_answers.specs.Answer as Answers
+use Rattle.vcpu_report.specs.declared.Reported.{Reported}
 use Rattle.vcpu_exit.specs.declared.Report.{Report}
+use Rattle.vcpu_exit.proofs.Passes.{passes}
 use Rattle.vcpu_report.specs.ExitReport as Exit
+use Rattle.vcpu_report.specs.Handlers as Handlers
 use Rattle.blocks.specs.ReportLayout as ReportLayout
 use Rattle.blocks.specs.ReportBlock.{reportOf}
+use Rattle.vcpu_report.specs.Laws.{oneOf}
 use Rattle.vcpu_report.proofs.ReportLaws.{report-laws}
 use Rattle.blocks.specs.SetupBlock.{argumentsOf, msrsOf, featuresOf}
 use Rattle.call_specs.specs.Records.{queueStep}
 use Rattle.bits.specs.Refuses.{by, Refuses}
-use Rattle.calls.specs.Reference.{choose, Call, setup, queueEvent, injectInterrupt, entry, exitReport, apicValue, fieldWrite, registerWrite, WellTyped, Event, queuedBy, entriesBy, injectedBy, leftBy, heldBy, IsHeld, isHeld, answerOn, validBy, waits, Effect, inPhase, effect, accept, referenceStep, referenceAnswer, Buffers, reportRules, rules}
-use Rattle.calls.specs.Calls.{Outcome, isRefused, eventOf, eventsOf, waitingOf, viewOf, guardedOf}
-use Rattle.calls.proofs.Choices.{cond-all, impossible, chosen, choose-ap}
+use Rattle.bits.proofs.Tells.{Tells, tells-eq, tells-leb, tells-and, tells-or, tells-not, tells-as}
+use Rattle.calls.specs.Moves.{Move, queues, finds-none, holds, writes, exits, fails, rests, moved, answerOf, Tally, tallied}
+use Rattle.calls.specs.Reference.{choose, Call, setup, queueEvent, injectInterrupt, entry, exitReport, apicValue, fieldWrite, registerWrite, WellTyped, Event, entryMove, moveBy, limitsOf, IsHeld, isHeld, answerOn, moveOn, Reference, validBy, windowBy, waits, inPhase, atSetup, atEntry, atExit, atFieldWrite, wordsBy, accept, referenceStep, referenceAnswer, Buffers, reportRules, ownRules}
+use Rattle.calls.specs.Calls.{Outcome, Logged, isRefused, eventOf, eventsOf, waitingOf, limitsIn, wordsOf, viewOf, moveOf}
+use Rattle.calls.proofs.Choices.{cond-all, impossible, choose-no, choose-ap}
 use Rattle.calls.proofs.Events.{events-set, events-long, events-shifted, events-front}
 use Rattle.calls.proofs.RawWrites.{Names, raw-read, placed-listed, listed-placed}
 use Rattle.calls.proofs.WordBits.{tabled}
-use Rattle.calls.proofs.Fields.{Same, same-stack, same-window, same-injected, injected-word}
+use Rattle.calls.proofs.Fields.{put-own, same-stack, same-window, same-injected, entryFields, same-entered, injected-word}
 use Rattle.calls.proofs.Sessions.{hasBuffers, left, entering, sessionStep, Sound, sound-sized, sound-alike}
 use Rattle.calls.proofs.SetupNumbers.{buffers-of, of-buffers, setup-refuses}
 use Rattle.calls.proofs.SetupFits.{typed}
-use Rattle.calls.proofs.ReportNumbers.{phase-agrees, report-refuses}
+use Rattle.calls.proofs.Handled.{exit-window, exit-cr0, exit-cr0-mask, exit-cr4, exit-cr4-mask}
+use Rattle.calls.proofs.ReportNumbers.{picks, phase-agrees, report-refuses}
 
--- allowed-1 of the entry controls has bit 9
-abbrev mayIa32e : Session → Bool
-mayIa32e s = bit 9 (pairAt (s .capabilities .pairs) 4 .allowed1)
+-- what is logged of a call on s that comes to o
+abbrev loggedAs : Session → Call → Outcome Session → Logged
+loggedAs s c o = record { call = c; refusal = o .refusal; answer = o .answer; waiting = waitingOf s }
 
--- one call, once the events j are injected
-pub record Stepped (j : List Event) (s : Session) (c : Call) (o : Outcome Session) : Type 0 where
-  pub state : viewOf (j ++ injectedBy (o .answer) (waitingOf s)) (o .state) ≡ referenceStep (viewOf j s) c (isRefused (o .refusal))
-  pub answer : o .answer ≡ referenceAnswer (viewOf j s) c (isRefused (o .refusal))
-  pub numbers : Refuses (rules (viewOf j s) (guardedOf s) c) (o .refusal)
+-- one call, once the calls before it came to the tally t
+pub record Stepped (t : Tally Event) (s : Session) (c : Call) (o : Outcome Session) : Type 0 where
+  pub move : moveOf (loggedAs s c o) ≡ cond (isRefused (o .refusal)) rests (moveOn (viewOf t s) c)
+  pub state : viewOf (tallied t (moveOf (loggedAs s c o))) (o .state) ≡ referenceStep (viewOf t s) c (isRefused (o .refusal))
+  pub answer : o .answer ≡ referenceAnswer (viewOf t s) c (isRefused (o .refusal))
+  pub numbers : Refuses (ownRules (viewOf t s) c) (o .refusal)
   pub unchanged : isRefused (o .refusal) ≡ true → o .state ≡ s
 
--- ---- a call that is refused, and one that leaves the queue alone
+-- ---- a call that is refused, one that leaves the queue alone, and one that queues
 
-module _ (j : List Event) (s : Session) (c : Call) where
-  refuses : (n : ℕ) → eqb n 0 ≡ false → Refuses (rules (viewOf j s) (guardedOf s) c) n → Stepped j s c (record { refusal = n; answer = Empty; state = s })
-  refuses n e w = record { state = rw e (ap (λ (l : List Event). viewOf l s) (append-nil j)); answer = rw e; numbers = w; unchanged = λ _. refl }
+-- a move of this kind does nothing to the queue and is no entry
+record Quiet (m : Move Event) : Type 0 where
+  tally : (t : Tally Event) → tallied t m ≡ t
+  pending : (w : List Event) → moved w m ≡ w
+  answer : answerOf m ≡ Empty
 
-  -- accepted, with the effect x: the queue and the counts stay
-  quiet : (x : Effect) (t : Session) → effect (viewOf j s) c ≡ x → queuedBy c ≡ [] → entriesBy c ≡ 0 → x .answer ≡ Empty
-      → t .queue ≡ s .queue → t .progress .entries ≡ s .progress .entries → t .progress .held ≡ s .progress .held
-      → bit 9 (valueOf (t .vmcs) VmcsGuestNW.RFLAGS) ≡ x .flag → valueOf (t .vmcs) VmcsGuest32.INTERRUPTIBILITY_STATE ≡ x .interruptibility
-      → t .progress .phase ≡ x .phase → bit 31 (valueOf (t .vmcs) VmcsControl32.VMENTRY_INTERRUPTION_INFO_FIELD) ≡ x .valid → mayIa32e t ≡ x .ia32e
-      → Refuses (rules (viewOf j s) (guardedOf s) c) 0 → Stepped j s c (left (answered 0 t))
-  quiet x t ex q n a qs es hs fl ib ph va ia w =
-      let rest : waitingOf t ≡ leftBy (x .answer) (waitingOf s) ++ queuedBy c
-      = (λ i. take (qs i .waiting) (eventsOf (qs i .vectors) (qs i .coded) (qs i .codes))) ∙ sym (append-nil (waitingOf s))
-      ∙ (λ i. leftBy (sym a i) (waitingOf s) ++ sym q i) in
-      let made : t .progress .entries ≡ s .progress .entries + entriesBy c = omega arith in
-      let kept : t .progress .held ≡ s .progress .held + heldBy (x .answer)
-      = hs ∙ sym (add-zero (s .progress .held)) ∙ ap (λ (y : Injection). s .progress .held + heldBy y) (sym a) in
+rests-quiet : Quiet rests
+rests-quiet = record { tally = λ t. refl; pending = λ w. refl; answer = refl }
+
+module _ (t : Tally Event) (s : Session) (c : Call) where
+  refuses : (n : ℕ) → eqb n 0 ≡ false → Refuses (ownRules (viewOf t s) c) n
+      → Stepped t s c (record { refusal = n; answer = Empty; resumed = false; state = s })
+  refuses n e w = record { move = rw e; state = rw e; answer = rw e; numbers = w; unchanged = λ _. refl }
+
+  -- accepted, with the words that the reference has after it: the queue and the counts stay
+  quiet : (r : Session) (m : Move Event) → Quiet m → ((a : Injection) (w : List Event) → moveBy c a w ≡ m) → r .queue ≡ s .queue
+      → r .progress .entries ≡ s .progress .entries → r .progress .held ≡ s .progress .held → wordsOf r ≡ wordsBy (viewOf t s) c
+      → Refuses (ownRules (viewOf t s) c) 0 → Stepped t s c (left (answered 0 r))
+  quiet r m q is qs es hs ws n =
+      let w = waitingOf s in
+      let a = answerOn w (wordsOf s .flag) (wordsOf s .interruptibility) in
       record {
-        state = (λ i. record {
-          injected = j ++ injectedBy (sym a i) (waitingOf s);
-          pending = rest i;
-          entries = made i;
-          held = kept i;
-          flag = fl i;
-          interruptibility = ib i;
-          phase = ph i;
-          valid = va i;
-          ia32e = ia i;
-        }) ∙ ap (accept (viewOf j s) c) (sym ex);
-        answer = sym a ∙ ap (λ (y : Effect). y .answer) (sym ex);
-        numbers = w;
+        move = is Empty w ∙ sym (is a w);
+        state = λ i. record {
+          tally = ((λ i. record {
+            queued = (ap (tallied t) (is Empty w) ∙ q .tally t) i .queued;
+            injected = (ap (tallied t) (is Empty w) ∙ q .tally t) i .injected;
+            entries = es i;
+            held = hs i;
+          }) ∙ sym (ap (tallied (viewOf t s .tally)) (is a w) ∙ q .tally (viewOf t s .tally))) i;
+          pending = ((λ i. take (qs i .waiting) (eventsOf (qs i .vectors) (qs i .coded) (qs i .codes))) ∙ sym (ap (moved w) (is a w) ∙ q .pending w)) i;
+          words = ws i;
+        };
+        answer = sym (ap answerOf (is a w) ∙ q .answer);
+        numbers = n;
         unchanged = impossible;
       }
 
   -- accepted, with the event e queued last
-  queues : (e : Core.Event) → Sound s → effect (viewOf j s) c ≡ inPhase (viewOf j s) (s .progress .phase)
-      → queuedBy c ≡ eventOf (e .vector) (e .coded) (e .code) ∷ [] → entriesBy c ≡ 0
-      → s .queue .waiting < 64 → Refuses (rules (viewOf j s) (guardedOf s) c) 0
-      → Stepped j s c (left (answered 0 (record {
-        progress = s .progress;
-        regs = s .regs;
-        vmcs = s .vmcs;
-        queue = pushed
-            (s .queue) e;
-        capabilities = s .capabilities;
-      })))
+  queues-last : (e : Core.Event) → Sound s → ((a : Injection) (w : List Event) → moveBy c a w ≡ queues (eventOf (e .vector) (e .coded) (e .code)))
+      → wordsBy (viewOf t s) c ≡ wordsOf s → s .queue .waiting < 64 → Refuses (ownRules (viewOf t s) c) 0
+      → Stepped t s c (left (answered 0 (withQueue s (pushed (s .queue) e))))
   unfolding pushed
-  queues e h ex q n lt w =
+  queues-last e h is ws lt n =
       let k = s .queue .waiting in
+      let w = waitingOf s in
       let l = eventsOf (s .queue .vectors) (s .queue .coded) (s .queue .codes) in
+      let ev : Event = eventOf (e .vector) (e .coded) (e .code) in
       let stored : Event = eventOf (e .vector) (e .coded) (cond (e .coded) (e .code) 0) in
-      let same : stored ≡ eventOf (e .vector) (e .coded) (e .code) = code-kept (e .vector) (e .coded) (e .code) in
       let long : k < length l = omega (
         arith,
         events-long (s .queue .vectors) (s .queue .coded) (s .queue .codes)
@@ -141,25 +154,22 @@ module _ (j : List Event) (s : Session) (c : Call) where
       ) in
       let last : take (k + 1) (eventsOf (set (s .queue .vectors) k (e .vector)) (withBit k (e .coded) (s .queue .coded))
       (set (s .queue .codes) k (cond (e .coded) (e .code) 0)))
-      ≡ waitingOf s ++ queuedBy c
+      ≡ w ++ (ev ∷ [])
       = ap (take (k + 1)) (events-set (s .queue .vectors) (s .queue .coded) (s .queue .codes) k (e .vector) (e .coded) (cond (e .coded) (e .code) 0))
       ∙ ap (λ (m : ℕ). take m (set l k stored)) (add-one k) ∙ take-suc-set l k stored long
-      ∙ ap (λ (y : Event). waitingOf s ++ (y ∷ [])) same ∙ ap (λ (y : List Event). waitingOf s ++ y) (sym q) in
-      let made : s .progress .entries ≡ s .progress .entries + entriesBy c = omega arith in
+      ∙ ap (λ (y : Event). w ++ (y ∷ [])) (code-kept (e .vector) (e .coded) (e .code)) in
+      let a = answerOn w (wordsOf s .flag) (wordsOf s .interruptibility) in
+      let on : moveOf (loggedAs s c (left (answered 0 s))) ≡ queues ev = is Empty w in
       record {
-        state = (λ i. record {
-          injected = j ++ [];
-          pending = last i;
-          entries = made i;
-          held = sym (add-zero (s .progress .held)) i;
-          flag = bit 9 (valueOf (s .vmcs) VmcsGuestNW.RFLAGS);
-          interruptibility = valueOf (s .vmcs) VmcsGuest32.INTERRUPTIBILITY_STATE;
-          phase = s .progress .phase;
-          valid = bit 31 (valueOf (s .vmcs) VmcsControl32.VMENTRY_INTERRUPTION_INFO_FIELD);
-          ia32e = mayIa32e s;
-        }) ∙ ap (accept (viewOf j s) c) (sym ex);
-        answer = ap (λ (y : Effect). y .answer) (sym ex);
-        numbers = w;
+        move = is Empty w ∙ sym (is a w);
+        state = (λ i. viewOf (tallied t (on i)) (withQueue s (pushed (s .queue) e)))
+            ∙ (λ i. record {
+              tally = tallied (viewOf t s .tally) (sym (is a w) i);
+              pending = (last ∙ ap (moved w) (sym (is a w))) i;
+              words = sym ws i;
+            });
+        answer = sym (ap answerOf (is a w));
+        numbers = n;
         unchanged = impossible;
       }
     where
@@ -177,49 +187,84 @@ block-features : (block : List ℕ) → argumentsOf block .features ≡ features
 unfolding argumentsOf
 block-features block = refl
 
--- a field that setup does not write
-info-kept : (x : Arguments) (n : ℕ) → lastOf (setupWrites x) VmcsControl32.VMENTRY_INTERRUPTION_INFO_FIELD n ≡ n
-unfolding setupWrites
-info-kept x n = refl
+-- primary bit 2, which setup neither sets nor clears
+first-window : (must may old : ℕ) → must < 2 ^ 32
+    → bit 2 (controlWord 32 must may old primarySet primaryClear) ≡ (bit 2 must || (bit 2 may && bit 2 old))
+unfolding controlWord
+first-window must may old h =
+    let free = bitNot 32 (bitOr primarySet primaryClear) in
+    let loose = bitAnd (bitNot 32 must) may in
+    rw (
+      bit-or 2 (bitOr must (bitAnd (bitAnd loose free) old)) primarySet,
+      bit-or 2 must (bitAnd (bitAnd loose free) old),
+      bit-and 2 (bitAnd loose free) old,
+      bit-and 2 loose free,
+      bit-and 2 (bitNot 32 must) may,
+      bit-not 32 2 must (lit< tt) h,
+    )
+    (go (bit 2 must) (bit 2 may) (bit 2 old))
+  where
+    go : (a b o : Bool) → ((a || (((not a && b) && true) && o)) || false) ≡ (a || (b && o))
+    go true b o = refl
+    go false true true = refl
+    go false true false = refl
+    go false false o = refl
 
-module _ (j : List Event) (s : Session) (block a b msr : List ℕ) (fixed : Typed (msrsOf block)) (h : Sound s) where
+setup-words : (s r : Session) (x : Arguments) → SetUp s x r → wordsOf r ≡ atSetup (wordsOf s) (x .msrs)
+unfolding setupWrites setupWords
+setup-words s r x u =
+    let m = x .msrs in
+    λ i. record {
+      phase = u .phase i;
+      launched = u .launched i;
+      flag = bit 9 (u .rflags i);
+      interruptibility = u .interruptibility i;
+      valid = bit 31 (u .fields VmcsControl32.VMENTRY_INTERRUPTION_INFO_FIELD (lit< tt) i);
+      window = (ap (bit 2) (u .fields VmcsControl32.PRIMARY_PROCBASED_EXEC_CONTROLS (lit< tt))
+          ∙ first-window (low32 (m .trueprocbased)) (high32 (m .trueprocbased)) (low32 (m .procbased)) (omega arith)) i;
+      errorCode = u .fields VmcsReadOnly32.VMEXIT_INTERRUPTION_ERR_CODE (lit< tt) i;
+      instructionLength = u .fields VmcsReadOnly32.VMEXIT_INSTRUCTION_LEN (lit< tt) i;
+      cr0 = u .fields VmcsGuestNW.CR0 (lit< tt) i;
+      cr0mask = u .fields VmcsControlNW.CR0_GUEST_HOST_MASK (lit< tt) i;
+      cr4 = u .fields VmcsGuestNW.CR4 (lit< tt) i;
+      cr4mask = u .fields VmcsControlNW.CR4_GUEST_HOST_MASK (lit< tt) i;
+      limits = limitsIn (u .capabilities i);
+    }
+
+module _ (t : Tally Event) (s : Session) (block a b msr : List ℕ) (fixed : Typed (msrsOf block)) (h : Sound s) where
   abbrev call : Call
   call = setup block a b msr
 
   abbrev given : Arguments
   given = argumentsOf block
 
-  setup-numbers : Buffers block a b msr → Refuses (rules (viewOf j s) (guardedOf s) call) (setupOf s given .refusal)
+  setup-numbers : Buffers block a b msr → Refuses (ownRules (viewOf t s) call) (setupOf s given .refusal)
   setup-numbers l =
       inr (
         λ n. n l,
-        rw (setup-number s given, block-msrs block, block-features block) (setup-refuses s (msrsOf block) (featuresOf block) (h .lawful)),
+        rw (setup-number s given, block-msrs block, block-features block) (setup-refuses s (capabilitiesOf (msrsOf block)) (featuresOf block) (h .lawful)),
       )
 
-  setup-accepted : setupOf s given .refusal ≡ 0 → Refuses (rules (viewOf j s) (guardedOf s) call) 0
-      → Stepped j s call (left (answered 0 (setupOf s given .session)))
+  setup-accepted : setupOf s given .refusal ≡ 0 → Refuses (ownRules (viewOf t s) call) 0 → Stepped t s call (left (answered 0 (setupOf s given .session)))
   setup-accepted e w =
       let k = set-up s given (sound-sized s h) (rw (block-msrs block) fixed) e in
-      quiet j s call (effect (viewOf j s) call) (setupOf s given .session) refl refl refl refl (k .queue) (k .entries) (k .held)
-      (ap (bit 9) (k .rflags)) (k .interruptibility) (k .phase)
-      (ap (bit 31) (k .fields VmcsControl32.VMENTRY_INTERRUPTION_INFO_FIELD (lit< tt) ∙ info-kept given _))
-      (ap (λ (x : Capabilities). bit 9 (pairAt (x .pairs) 4 .allowed1)) (k .capabilities) ∙ ap (λ (m : CapabilityMsrs). bit 9 (high32 (m .trueentry)))
-      (block-msrs block)) w
+      quiet t s call (setupOf s given .session) rests rests-quiet (λ _ _. refl) (k .queue) (k .entries) (k .held)
+      (setup-words s (setupOf s given .session) given k ∙ ap (atSetup (wordsOf s)) (block-msrs block)) w
 
-  setup-decided : Buffers block a b msr → (t : Bool) → eqb (setupOf s given .refusal) 0 ≡ t → Stepped j s call (left (setupOf s given))
+  setup-decided : Buffers block a b msr → (y : Bool) → eqb (setupOf s given .refusal) 0 ≡ y → Stepped t s call (left (setupOf s given))
   setup-decided l true e =
       let z = eqb-true _ _ e in
-      subst (λ (n : ℕ). Stepped j s call (left (answered n (setupOf s given .session)))) (sym z)
-      (setup-accepted z (subst (Refuses (rules (viewOf j s) (guardedOf s) call)) z (setup-numbers l)))
+      subst (λ (n : ℕ). Stepped t s call (left (answered n (setupOf s given .session)))) (sym z)
+      (setup-accepted z (subst (Refuses (ownRules (viewOf t s) call)) z (setup-numbers l)))
   setup-decided l false e =
-      subst (λ (t : Session). Stepped j s call (left (answered (setupOf s given .refusal) t))) (sym (refused-keeps s given (eqb-false _ _ e)))
-      (refuses j s call (setupOf s given .refusal) e (setup-numbers l))
+      subst (λ (r : Session). Stepped t s call (left (answered (setupOf s given .refusal) r))) (sym (refused-keeps s given (eqb-false _ _ e)))
+      (refuses t s call (setupOf s given .refusal) e (setup-numbers l))
 
-  setup-step : Stepped j s call (sessionStep s call)
+  setup-step : Stepped t s call (sessionStep s call)
   setup-step =
-      cond-all (λ (r : Answered). Stepped j s call (left r)) (hasBuffers block a b msr) _ _
-      (λ t. setup-decided (buffers-of block a b msr t) (eqb (setupOf s given .refusal) 0) refl)
-      (λ t. refuses j s call 2 refl (inl (λ l. true≢false (sym (of-buffers block a b msr l) ∙ t), refl)))
+      cond-all (λ (r : Answered). Stepped t s call (left r)) (hasBuffers block a b msr) _ _
+      (λ y. setup-decided (buffers-of block a b msr y) (eqb (setupOf s given .refusal) 0) refl)
+      (λ y. refuses t s call 2 refl (inl (λ l. true≢false (sym (of-buffers block a b msr l) ∙ y), refl)))
 
 -- ---- queueing
 
@@ -229,83 +274,63 @@ pending-long s h =
     length-take-le (s .queue .waiting) _
     (omega (arith, events-long (s .queue .vectors) (s .queue .coded) (s .queue .codes) (sound-alike s h), h .fits .queue .vectors .sized, h .lawful .waiting))
 
-module _ (j : List Event) (s : Session) (h : Sound s) where
-  -- the two last numbers, and acceptance
-  queue-tail : (c : Call) (e : Core.Event) → effect (viewOf j s) c ≡ inPhase (viewOf j s) (s .progress .phase)
-      → queuedBy c ≡ eventOf (e .vector) (e .coded) (e .code) ∷ [] → entriesBy c ≡ 0
-      → ((n : ℕ) → Refuses (by 13 (64 ≤ length (waitingOf s)) ∷ []) n → Refuses (rules (viewOf j s) (guardedOf s) c) n)
-      → Stepped j s c (left (cond (leb 64 (s .queue .waiting)) (answered 13 s)
-      (answered 0 (record { progress = s .progress; regs = s .regs; vmcs = s .vmcs; queue = pushed (s .queue) e; capabilities = s .capabilities }))))
-  queue-tail c e ex q n w =
-      cond-all (λ (a : Answered). Stepped j s c (left a)) (leb 64 (s .queue .waiting)) _ _
-      (λ u. refuses j s c 13 refl (w 13 (inl (omega (arith, leb-true 64 (s .queue .waiting) u, pending-long s h), refl))))
-      (λ u. queues j s c e h ex q n (leb-false 64 (s .queue .waiting) u) (w 0
+module _ (t : Tally Event) (s : Session) (h : Sound s) where
+  -- the last number, and acceptance
+  queue-tail : (c : Call) (e : Core.Event) → ((a : Injection) (w : List Event) → moveBy c a w ≡ queues (eventOf (e .vector) (e .coded) (e .code)))
+      → wordsBy (viewOf t s) c ≡ wordsOf s
+      → ((n : ℕ) → Refuses (by 13 (64 ≤ length (waitingOf s)) ∷ []) n → Refuses (ownRules (viewOf t s) c) n)
+      → Stepped t s c (left (cond (leb 64 (s .queue .waiting)) (answered 13 s) (answered 0 (withQueue s (pushed (s .queue) e)))))
+  queue-tail c e is ws w =
+      cond-all (λ (a : Answered). Stepped t s c (left a)) (leb 64 (s .queue .waiting)) _ _
+      (λ u. refuses t s c 13 refl (w 13 (inl (omega (arith, leb-true 64 (s .queue .waiting) u, pending-long s h), refl))))
+      (λ u. queues-last t s c e h is ws (leb-false 64 (s .queue .waiting) u) (w 0
       (inr (λ l. omega (arith, leb-false 64 (s .queue .waiting) u, pending-long s h), refl))))
 
-  queue-step : (vector coded code : ℕ) → Stepped j s (queueEvent vector coded code) (sessionStep s (queueEvent vector coded code))
+  queue-step : (vector coded code : ℕ) → Stepped t s (queueEvent vector coded code) (sessionStep s (queueEvent vector coded code))
   unfolding queueStep Queue.queueEvent
   queue-step vector coded code =
       let c = queueEvent vector coded code in
-      cond-all P (ltb 1 coded) _ _ (λ t. refuses j s c 2 refl (inl (ltb-true 1 coded t, refl)))
-      (λ t. rw (of-lawful s (h .lawful))
+      cond-all P (ltb 1 coded) _ _ (λ y. refuses t s c 2 refl (inl (ltb-true 1 coded y, refl)))
+      (λ y. rw (of-lawful s (h .lawful))
       (cond-all P (eqb (s .progress .phase) 4) _ _
-      (λ u. refuses j s c 1 refl (inr (λ l. omega (arith, ltb-false 1 coded t, l), inl (eqb-true _ _ u, refl))))
-      (λ u. queue-tail c (record { vector = vector; coded = eqb coded 1; code = code }) refl refl refl
-      (λ n w. inr (λ l. omega (arith, ltb-false 1 coded t, l), inr (eqb-false _ _ u, w))))))
+      (λ u. refuses t s c 1 refl (inr (λ l. omega (arith, ltb-false 1 coded y, l), inl (eqb-true _ _ u, refl))))
+      (λ u. queue-tail c (record { vector = vector; coded = eqb coded 1; code = code }) (λ _ _. refl) refl
+      (λ n w. inr (λ l. omega (arith, ltb-false 1 coded y, l), inr (eqb-false _ _ u, w))))))
     where
       P : Answered → Type 0
-      P a = Stepped j s (queueEvent vector coded code) (left a)
+      P a = Stepped t s (queueEvent vector coded code) (left a)
 
-  interrupt-step : (vector : ℕ) → Stepped j s (injectInterrupt vector) (sessionStep s (injectInterrupt vector))
+  interrupt-step : (vector : ℕ) → Stepped t s (injectInterrupt vector) (sessionStep s (injectInterrupt vector))
   unfolding Queue.injectInterrupt Queue.queueEvent
   interrupt-step vector =
       let c = injectInterrupt vector in
       rw (of-lawful s (h .lawful))
-      (cond-all P (eqb (s .progress .phase) 4) _ _ (λ t. refuses j s c 1 refl (inl (eqb-true _ _ t, refl)))
-      (λ t. cond-all P (eqb vector 0) _ _ (λ z. refuses j s c 12 refl (inr (eqb-false _ _ t, inl (inl (eqb-true _ _ z), refl))))
-      (λ z. cond-all P (ltb 255 vector) _ _ (λ b. refuses j s c 12 refl (inr (eqb-false _ _ t, inl (inr (ltb-true 255 vector b), refl))))
+      (cond-all P (eqb (s .progress .phase) 4) _ _ (λ y. refuses t s c 1 refl (inl (eqb-true _ _ y, refl)))
+      (λ y. cond-all P (eqb vector 0) _ _ (λ z. refuses t s c 12 refl (inr (eqb-false _ _ y, inl (inl (eqb-true _ _ z), refl))))
+      (λ z. cond-all P (ltb 255 vector) _ _ (λ b. refuses t s c 12 refl (inr (eqb-false _ _ y, inl (inr (ltb-true 255 vector b), refl))))
       (λ b.
       let small : vector ≤ 255 = ltb-false 255 vector b in
-      let ok : (vector ≡ 0) ⊎ (256 ≤ vector) → ⊥ = λ o. elim o [ inl x ↦ eqb-false vector 0 z x | inr y ↦ omega arith ] in
-      rw t (queue-tail c (record { vector = vector; coded = false; code = 0 }) refl refl refl (λ n w. inr (eqb-false _ _ t, inr (ok, w))))))))
+      let ok : (vector ≡ 0) ⊎ (256 ≤ vector) → ⊥ = λ o. elim o [ inl x ↦ eqb-false vector 0 z x | inr x ↦ omega arith ] in
+      rw y (queue-tail c (record { vector = vector; coded = false; code = 0 }) (λ _ _. refl) refl (λ n w. inr (eqb-false _ _ y, inr (ok, w))))))))
     where
       P : Answered → Type 0
-      P a = Stepped j s (injectInterrupt vector) (left a)
+      P a = Stepped t s (injectInterrupt vector) (left a)
 
 -- ---- entry
 
-both-true : (a b : Bool) → (a && b) ≡ true → (a ≡ true) × (b ≡ true)
-both-true true b e = (refl, e)
-both-true false b e = impossible e
-
-one-true : (a b : Bool) → (a || b) ≡ true → (a ≡ true) ⊎ (b ≡ true)
-one-true true b e = inl refl
-one-true false b e = inr e
-
 -- bit 9 as a test of 0 and as a test of 1
-clear-bit : (n : ℕ) → eqb (n % 2) 0 ≡ true → eqb (n % 2) 1 ≡ false
-clear-bit n e = rw (eqb-true (n % 2) 0 e)
-
-bit-clear : (n : ℕ) → eqb (n % 2) 1 ≡ false → eqb (n % 2) 0 ≡ true
-bit-clear n e = let z = eqb-false (n % 2) 1 e in eq-eqb (n % 2) 0 (omega arith)
+clear-tells : (n : ℕ) → Tells (eqb (n % 2) 0) (eqb (n % 2) 1 ≡ false)
+clear-tells n =
+    record {
+      yes-so = λ e. rw (eqb-true (n % 2) 0 e);
+      not-so = λ e f. let z = eqb-false (n % 2) 0 e in let y = eqb-false (n % 2) 1 f in omega arith;
+    }
 
 -- the core's hold rule and the reference's
-held-of : (v f i : ℕ) → Entry.isHeld v f i ≡ true → IsHeld v (bit 9 f) i
+held-tells : (v f i : ℕ) → Tells (Entry.isHeld v f i) (IsHeld v (bit 9 f) i)
 unfolding Entry.isHeld
-held-of v f i e =
-    let p = both-true (leb 32 v) (eqb (f / 2 ^ 9 % 2) 0 || not (eqb i 0)) e in (
-      leb-true 32 v (p .0),
-      elim (one-true (eqb (f / 2 ^ 9 % 2) 0) (not (eqb i 0)) (p .1)) [
-        | inl x ↦ inl (clear-bit (f / 2 ^ 9) x)
-        | inr y ↦ inr (let z = eqb-false i 0 (not-true (eqb i 0) y) in omega arith)
-      ],
-    )
-
-of-held : (v f i : ℕ) → IsHeld v (bit 9 f) i → Entry.isHeld v f i ≡ true
-unfolding Entry.isHeld
-of-held v f i h =
-    rw (le-leb 32 v (h .0))
-    (elim (h .1) [ inl x ↦ rw (bit-clear (f / 2 ^ 9) x) | inr y ↦ rw (ne-eqb i 0 (λ z. omega arith)) (or-true (eqb (f / 2 ^ 9 % 2) 0)) ])
+held-tells v f i =
+    tells-and (tells-leb 32 v) (tells-or (clear-tells (f / 2 ^ 9)) (tells-as (tells-not (tells-eq i 0)) (λ n. omega arith) (λ l e. omega arith)))
 
 -- the answer, from the arrays and from the events that wait
 front : (n : ℕ) (vs : List ℕ) (w : ℕ) (cs : List ℕ) (f i : ℕ) → length cs ≡ length vs → 0 < length vs
@@ -313,134 +338,238 @@ front : (n : ℕ) (vs : List ℕ) (w : ℕ) (cs : List ℕ) (f i : ℕ) → leng
 front zero vs w cs f i a h = refl
 front (suc n) vs w cs f i a h =
     rw (eqb·suc-zero n)
-    (chosen (isHeld (getD vs 0 0) (bit 9 f) i) (Entry.isHeld (getD vs 0 0) f i) Held Written (held-of (getD vs 0 0) f i)
-    (λ e k. true≢false (sym (of-held (getD vs 0 0) f i k) ∙ e))
+    (picks (held-tells (getD vs 0 0) f i) (isHeld (getD vs 0 0) (bit 9 f) i) Held Written
     ∙ sym (ap (λ (l : List Event). answerOn l (bit 9 f) i) (events-front (suc n) vs w cs a (omega arith) h)))
 
-answers-so : (s : Session) → Sound s
-    → injectionOf (s .queue) (s .vmcs) ≡ answerOn (waitingOf s) (bit 9 (valueOf (s .vmcs) VmcsGuestNW.RFLAGS))
-    (valueOf (s .vmcs) VmcsGuest32.INTERRUPTIBILITY_STATE)
+answers-so : (s : Session) → Sound s → injectionOf (s .queue) (s .vmcs) ≡ answerOn (waitingOf s) (wordsOf s .flag) (wordsOf s .interruptibility)
 unfolding injectionOf
 answers-so s h =
     front (s .queue .waiting) (s .queue .vectors) (s .queue .coded) (s .queue .codes) _ _ (sound-alike s h) (omega (arith, h .fits .queue .vectors .sized))
 
-module _ (j : List Event) (s : Session) (stack : ℕ) (h : Sound s) where
-  -- the effect of an entry that answers a
-  abbrev enteringAs : Injection → Effect
-  enteringAs a =
-      record {
-        answer = a;
-        flag = bit 9 (valueOf (s .vmcs) VmcsGuestNW.RFLAGS);
-        interruptibility = valueOf (s .vmcs) VmcsGuest32.INTERRUPTIBILITY_STATE;
-        phase = 2;
-        valid = validBy a (bit 31 (valueOf (s .vmcs) VmcsControl32.VMENTRY_INTERRUPTION_INFO_FIELD));
-        ia32e = mayIa32e s;
-      }
+-- an answer of the hold rule is that of the entry's move
+pub answer-moves : (w : List Event) (f : Bool) (i : ℕ) → answerOf (entryMove (answerOn w f i) w) ≡ answerOn w f i
+answer-moves [] f i = refl
+answer-moves (e ∷ w) f i = go (isHeld (e .vector) f i)
+  where
+    go : {P : Type 0} (d : Dec P) → answerOf (entryMove (choose d Held Written) (e ∷ w)) ≡ choose d Held Written
+    go (yes p) = refl
+    go (no p) = refl
 
+other : Empty ≡ Written → ⊥
+other e = let z : _≡_ {A = ℕ} 0 1 = cc in omega arith
+
+pub written-waits : (s : Session) → injectionOf (s .queue) (s .vmcs) ≡ Written → 0 < s .queue .waiting
+unfolding injectionOf
+written-waits s =
+    cond-all (λ (a : Injection). a ≡ Written → 0 < s .queue .waiting) (eqb (s .queue .waiting) 0) _ _ (λ _ e. absurd (other e))
+    (λ t _. let n = eqb-false (s .queue .waiting) 0 t in omega arith)
+
+-- where one waits, it is the front of the queue's arrays
+pub front-waits : (s : Session) → Sound s → 0 < s .queue .waiting
+    → waitingOf s ≡ eventOf (frontOf (s .queue) .vector) (frontOf (s .queue) .coded) (frontOf (s .queue) .code) ∷ drop 1 (waitingOf s)
+front-waits s h some-wait =
+    let q = s .queue in
+    events-front (q .waiting) (q .vectors) (q .coded) (q .codes) (sound-alike s h) some-wait (omega (arith, h .fits .queue .vectors .sized))
+
+module _ (t : Tally Event) (s : Session) (stack : ℕ) (h : Sound s) where
   abbrev begun : Vmcs
   begun = withStack (s .vmcs) (s .progress .launched) stack
 
-  stack-flags : Same VmcsGuestNW.RFLAGS (s .vmcs) begun
-  stack-flags = same-stack VmcsGuestNW.RFLAGS (lit< tt) (s .vmcs) (s .progress .launched) stack (sound-sized s h) refl
+  stacked : Sized begun
+  stacked = same-stack VmcsGuestNW.RFLAGS (lit< tt) (s .vmcs) (s .progress .launched) stack (sound-sized s h) refl .sized
 
-  stack-state : Same VmcsGuest32.INTERRUPTIBILITY_STATE (s .vmcs) begun
-  stack-state = same-stack VmcsGuest32.INTERRUPTIBILITY_STATE (lit< tt) (s .vmcs) (s .progress .launched) stack (sound-sized s h) refl
+  -- a field that no entry writes
+  kept : (f : Field) → placeOf f < sizeOf f → oneOf entryFields f ≡ false → (a : Injection) → valueOf (afterEntry s stack a .vmcs) f ≡ valueOf (s .vmcs) f
+  unfolding afterEntry
+  kept f k e a = same-entered f k (s .vmcs) (s .progress .launched) stack (frontOf (s .queue)) a (sound-sized s h) e .value
 
-  stack-info : Same VmcsControl32.VMENTRY_INTERRUPTION_INFO_FIELD (s .vmcs) begun
-  stack-info = same-stack VmcsControl32.VMENTRY_INTERRUPTION_INFO_FIELD (lit< tt) (s .vmcs) (s .progress .launched) stack (sound-sized s h) refl
+  phase-so : (a : Injection) → afterEntry s stack a .progress .phase ≡ 2
+  unfolding afterEntry progressAfter
+  phase-so Empty = refl
+  phase-so Held = refl
+  phase-so Written = refl
 
-  -- the session that an entry leaves, by its answer
-  enters : (a : Injection) → viewOf (j ++ injectedBy a (waitingOf s)) (afterEntry s stack a) ≡ accept (viewOf j s) (entry stack) (enteringAs a)
-  unfolding afterEntry progressAfter queueAfter vmcsAfter popped
-  enters Empty =
-      λ i. record {
-        injected = j ++ [];
-        pending = sym (append-nil (waitingOf s)) i;
-        entries = s .progress .entries + 1;
-        held = sym (add-zero (s .progress .held)) i;
-        flag = bit 9 (stack-flags .value i);
-        interruptibility = stack-state .value i;
-        phase = 2;
-        valid = bit 31 (stack-info .value i);
-        ia32e = mayIa32e s;
-      }
-  enters Held =
-      let z = stack-flags .sized in
-      λ i. record {
-        injected = j ++ [];
-        pending = sym (append-nil (waitingOf s)) i;
-        entries = s .progress .entries + 1;
-        held = s .progress .held + 1;
-        flag = bit 9 ((same-window VmcsGuestNW.RFLAGS (lit< tt) begun z refl .value ∙ stack-flags .value) i);
-        interruptibility = (same-window VmcsGuest32.INTERRUPTIBILITY_STATE (lit< tt) begun z refl .value ∙ stack-state .value) i;
-        phase = 2;
-        valid = bit 31 ((same-window VmcsControl32.VMENTRY_INTERRUPTION_INFO_FIELD (lit< tt) begun z refl .value ∙ stack-info .value) i);
-        ia32e = mayIa32e s;
-      }
-  enters Written =
-      let z = stack-flags .sized in
+  launched-so : (a : Injection) → afterEntry s stack a .progress .launched ≡ true
+  unfolding afterEntry progressAfter
+  launched-so Empty = refl
+  launched-so Held = refl
+  launched-so Written = refl
+
+  valid-so : (a : Injection) → wordsOf (afterEntry s stack a) .valid ≡ validBy a (wordsOf s .valid)
+  unfolding afterEntry vmcsAfter
+  valid-so Empty = ap (bit 31) (same-stack f (lit< tt) (s .vmcs) (s .progress .launched) stack (sound-sized s h) refl .value)
+    where
+      f : Field
+      f = VmcsControl32.VMENTRY_INTERRUPTION_INFO_FIELD
+  valid-so Held =
+      ap (bit 31) (same-window f (lit< tt) begun stacked refl .value ∙ same-stack f (lit< tt) (s .vmcs) (s .progress .launched) stack (sound-sized s h) refl .value)
+    where
+      f : Field
+      f = VmcsControl32.VMENTRY_INTERRUPTION_INFO_FIELD
+  valid-so Written =
       let e = frontOf (s .queue) in
+      ap (bit 31) (injected-word begun e stacked) ∙ ap (λ (w : ℕ). eqb (w % 2) 1) (tabled (e .vector) (h .fits .queue .vectors .below 0) .word .valid)
+
+  window-so : (a : Injection) → wordsOf (afterEntry s stack a) .window ≡ windowBy a (wordsOf s .window)
+  unfolding afterEntry vmcsAfter windowSet
+  window-so a = go a
+    where
+      f : Field
+      f = VmcsControl32.PRIMARY_PROCBASED_EXEC_CONTROLS
+
+      same : valueOf begun f ≡ valueOf (s .vmcs) f
+      same = same-stack f (lit< tt) (s .vmcs) (s .progress .launched) stack (sound-sized s h) refl .value
+
+      go : (a : Injection) → bit 2 (valueOf (vmcsAfter begun (frontOf (s .queue)) a) f) ≡ windowBy a (bit 2 (valueOf (s .vmcs) f))
+      go Empty = ap (bit 2) same
+      go Held = ap (bit 2) (put-own begun f _ stacked (lit< tt)) ∙ bit-or 2 (valueOf begun f) 4 ∙ or-true (bit 2 (valueOf begun f))
+      go Written = ap (bit 2) (same-injected f (lit< tt) begun (frontOf (s .queue)) stacked refl refl refl .value ∙ same)
+
+  entry-words : (a : Injection) → wordsOf (afterEntry s stack a) ≡ atEntry (wordsOf s) a
+  unfolding afterEntry
+  entry-words a =
+      λ i. record {
+        phase = phase-so a i;
+        launched = launched-so a i;
+        flag = bit 9 (kept VmcsGuestNW.RFLAGS (lit< tt) refl a i);
+        interruptibility = kept VmcsGuest32.INTERRUPTIBILITY_STATE (lit< tt) refl a i;
+        valid = valid-so a i;
+        window = window-so a i;
+        errorCode = kept VmcsReadOnly32.VMEXIT_INTERRUPTION_ERR_CODE (lit< tt) refl a i;
+        instructionLength = kept VmcsReadOnly32.VMEXIT_INSTRUCTION_LEN (lit< tt) refl a i;
+        cr0 = kept VmcsGuestNW.CR0 (lit< tt) refl a i;
+        cr0mask = kept VmcsControlNW.CR0_GUEST_HOST_MASK (lit< tt) refl a i;
+        cr4 = kept VmcsGuestNW.CR4 (lit< tt) refl a i;
+        cr4mask = kept VmcsControlNW.CR4_GUEST_HOST_MASK (lit< tt) refl a i;
+        limits = limitsIn (s .capabilities);
+      }
+
+  -- the reference after an entry that gives this answer
+  abbrev enteredAs : Injection → Reference
+  enteredAs a =
+      record {
+        tally = tallied (viewOf t s .tally) (entryMove a (waitingOf s));
+        pending = moved (waitingOf s) (entryMove a (waitingOf s));
+        words = atEntry (wordsOf s) a;
+      }
+
+  enters : (a : Injection) → injectionOf (s .queue) (s .vmcs) ≡ a → viewOf (tallied t (entryMove a (waitingOf s))) (afterEntry s stack a) ≡ enteredAs a
+  unfolding afterEntry progressAfter queueAfter popped
+  enters Empty e = λ i. record { tally = enteredAs Empty .tally; pending = waitingOf s; words = entry-words Empty i }
+  enters Held e = λ i. record { tally = enteredAs Held .tally; pending = waitingOf s; words = entry-words Held i }
+  enters Written e =
       let q = s .queue in
+      let line = front-waits s h (written-waits s e) in
       let rest : waitingOf (withQueue s (popped q)) ≡ drop 1 (waitingOf s)
       = events-shifted (q .waiting) (q .vectors) (q .coded) (q .codes) (sound-alike s h) (omega (arith, h .fits .queue .vectors .sized, h .lawful .waiting)) in
-      let word : bit 31 (valueOf (injected begun e) VmcsControl32.VMENTRY_INTERRUPTION_INFO_FIELD) ≡ true
-      = ap (bit 31) (injected-word begun e z) ∙ ap (λ (w : ℕ). eqb (w % 2) 1) (tabled (e .vector) (h .fits .queue .vectors .below 0) .word .valid) in
-      λ i. record {
-        injected = j ++ take 1 (waitingOf s);
-        pending = (rest ∙ sym (append-nil (drop 1 (waitingOf s)))) i;
-        entries = s .progress .entries + 1;
-        held = sym (add-zero (s .progress .held)) i;
-        flag = bit 9 ((same-injected VmcsGuestNW.RFLAGS (lit< tt) begun e z refl refl refl .value ∙ stack-flags .value) i);
-        interruptibility = (same-injected VmcsGuest32.INTERRUPTIBILITY_STATE (lit< tt) begun e z refl refl refl .value ∙ stack-state .value) i;
-        phase = 2;
-        valid = word i;
-        ia32e = mayIa32e s;
-      }
+      (λ i. record {
+        tally = record {
+          queued = tallied t (entryMove Written (line i)) .queued;
+          injected = tallied t (entryMove Written (line i)) .injected;
+          entries = s .progress .entries + 1;
+          held = s .progress .held;
+        };
+        pending = rest i;
+        words = entry-words Written i;
+      })
+      ∙ (λ i. record {
+        tally = tallied (viewOf t s .tally) (entryMove Written (sym line i));
+        pending = moved (waitingOf s) (entryMove Written (sym line i));
+        words = atEntry (wordsOf s) Written;
+      })
 
-  enter-step : Stepped j s (entry stack) (sessionStep s (entry stack))
+  enter-step : Stepped t s (entry stack) (sessionStep s (entry stack))
   unfolding Entry.entry
   enter-step =
       rw (of-lawful s (h .lawful))
       (cond-all P (not (eqb (s .progress .phase) 1)) _ _
-      (λ t. refuses j s (entry stack) 1 refl (inl (eqb-false _ _ (not-true _ t), refl)))
-      (λ t. cond-all P (eqb (s .progress .entries) 4294967295) _ _
-      (λ u. refuses j s (entry stack) 22 refl (inr (λ n. n (eqb-true _ _ (not-false _ t)), inl (eqb-true _ _ u, refl))))
+      (λ y. refuses t s (entry stack) 1 refl (inl (eqb-false _ _ (not-true _ y), refl)))
+      (λ y. cond-all P (eqb (s .progress .entries) 4294967295) _ _
+      (λ u. refuses t s (entry stack) 22 refl (inr (λ n. n (eqb-true _ _ (not-false _ y)), inl (eqb-true _ _ u, refl))))
       (λ u.
+      let w = waitingOf s in
       let a = answers-so s h in
       record {
-        state = enters (injectionOf (s .queue) (s .vmcs)) ∙ (λ i. accept (viewOf j s) (entry stack) (enteringAs (a i)));
-        answer = a;
-        numbers = inr (λ n. n (eqb-true _ _ (not-false _ t)), inr (eqb-false _ _ u, refl));
+        move = ap (λ (x : Injection). entryMove x w) a;
+        state = enters (injectionOf (s .queue) (s .vmcs)) refl ∙ ap enteredAs a;
+        answer = a ∙ sym (answer-moves w (wordsOf s .flag) (wordsOf s .interruptibility));
+        numbers = inr (λ n. n (eqb-true _ _ (not-false _ y)), inr (eqb-false _ _ u, refl));
         unchanged = impossible;
       })))
     where
       P : Entered → Type 0
-      P a = Stepped j s (entry stack) (entering a)
+      P a = Stepped t s (entry stack) (entering a)
 
 -- ---- APIC value
 
-apic-step : (j : List Event) (s : Session) (value : ℕ) → Sound s → Stepped j s (apicValue value) (sessionStep s (apicValue value))
+apic-step : (t : Tally Event) (s : Session) (value : ℕ) → Sound s → Stepped t s (apicValue value) (sessionStep s (apicValue value))
 unfolding Access.apicValue
-apic-step j s value h =
+apic-step t s value h =
     rw (of-lawful s (h .lawful))
-    (cond-all (λ (a : Answered). Stepped j s (apicValue value) (left a)) (not (eqb (s .progress .phase) 3)) _ _
-    (λ t. refuses j s (apicValue value) 1 refl (inl (eqb-false _ _ (not-true _ t), refl)))
-    (λ t. quiet j s (apicValue value) (inPhase (viewOf j s) 1) _ refl refl refl refl refl refl refl refl refl refl refl refl
-    (inr (λ n. n (eqb-true _ _ (not-false _ t)), refl))))
+    (cond-all (λ (a : Answered). Stepped t s (apicValue value) (left a)) (not (eqb (s .progress .phase) 3)) _ _
+    (λ y. refuses t s (apicValue value) 1 refl (inl (eqb-false _ _ (not-true _ y), refl)))
+    (λ y. quiet t s (apicValue value) _ rests rests-quiet (λ _ _. refl) refl refl refl refl (inr (λ n. n (eqb-true _ _ (not-false _ y)), refl))))
 
 -- ---- raw field write
 
-pub rflags-named : Names 0x6820 VmcsGuestNW.RFLAGS
-unfolding encodings named fieldAt
-rflags-named = record { listed = lit< tt; field = refl; within = lit< tt }
+-- the encodings of the fields that the reference keeps
+record Named : Type 0 where
+  rflags : Names 0x6820 VmcsGuestNW.RFLAGS
+  interruptibility : Names 0x4824 VmcsGuest32.INTERRUPTIBILITY_STATE
+  info : Names 0x4016 VmcsControl32.VMENTRY_INTERRUPTION_INFO_FIELD
+  primary : Names 0x4002 VmcsControl32.PRIMARY_PROCBASED_EXEC_CONTROLS
+  errorCode : Names 0x4406 VmcsReadOnly32.VMEXIT_INTERRUPTION_ERR_CODE
+  instructionLength : Names 0x440C VmcsReadOnly32.VMEXIT_INSTRUCTION_LEN
+  cr0 : Names 0x6800 VmcsGuestNW.CR0
+  cr0mask : Names 0x6000 VmcsControlNW.CR0_GUEST_HOST_MASK
+  cr4 : Names 0x6804 VmcsGuestNW.CR4
+  cr4mask : Names 0x6002 VmcsControlNW.CR4_GUEST_HOST_MASK
 
-pub state-named : Names 0x4824 VmcsGuest32.INTERRUPTIBILITY_STATE
+names : Named
 unfolding encodings named fieldAt
-state-named = record { listed = lit< tt; field = refl; within = lit< tt }
+names =
+    record {
+      rflags = record { listed = lit< tt; field = refl; within = lit< tt };
+      interruptibility = record { listed = lit< tt; field = refl; within = lit< tt };
+      info = record { listed = lit< tt; field = refl; within = lit< tt };
+      primary = record { listed = lit< tt; field = refl; within = lit< tt };
+      errorCode = record { listed = lit< tt; field = refl; within = lit< tt };
+      instructionLength = record { listed = lit< tt; field = refl; within = lit< tt };
+      cr0 = record { listed = lit< tt; field = refl; within = lit< tt };
+      cr0mask = record { listed = lit< tt; field = refl; within = lit< tt };
+      cr4 = record { listed = lit< tt; field = refl; within = lit< tt };
+      cr4mask = record { listed = lit< tt; field = refl; within = lit< tt };
+    }
 
-pub info-named : Names 0x4016 VmcsControl32.VMENTRY_INTERRUPTION_INFO_FIELD
-unfolding encodings named fieldAt
-info-named = record { listed = lit< tt; field = refl; within = lit< tt }
+module _ (s : Session) (e v : ℕ) (found : positionOf encodings e < 154) (h : Sound s) where
+  read : (x : ℕ) (f : Field) → Names x f → valueOf (put (s .vmcs) (fieldOf e) v) f ≡ choose (ℕ-discrete e x) v (valueOf (s .vmcs) f)
+  read x f n = raw-read e x f found n (s .vmcs) v (sound-sized s h) (ℕ-discrete e x)
+
+  read-bit : (i x : ℕ) (f : Field) → Names x f
+      → bit i (valueOf (put (s .vmcs) (fieldOf e) v) f) ≡ choose (ℕ-discrete e x) (bit i v) (bit i (valueOf (s .vmcs) f))
+  read-bit i x f n = ap (bit i) (read x f n) ∙ choose-ap (bit i) (ℕ-discrete e x) v _
+
+  -- a read-only field is not written
+  read-only : (x : ℕ) (f : Field) → Names x f → x / 2 ^ 10 % 4 ≡ 1 → (e / 2 ^ 10 % 4 ≡ 1 → ⊥) → valueOf (put (s .vmcs) (fieldOf e) v) f ≡ valueOf (s .vmcs) f
+  read-only x f n k other = read x f n ∙ choose-no (ℕ-discrete e x) _ _ (λ q. other (ap (λ (y : ℕ). y / 2 ^ 10 % 4) q ∙ k))
+
+  written-words : (e / 2 ^ 10 % 4 ≡ 1 → ⊥) → wordsOf (withVmcs s (put (s .vmcs) (fieldOf e) v)) ≡ atFieldWrite (wordsOf s) e v
+  written-words other =
+      λ i. record {
+        phase = s .progress .phase;
+        launched = s .progress .launched;
+        flag = read-bit 9 0x6820 _ (names .rflags) i;
+        interruptibility = read 0x4824 _ (names .interruptibility) i;
+        valid = read-bit 31 0x4016 _ (names .info) i;
+        window = read-bit 2 0x4002 _ (names .primary) i;
+        errorCode = read-only 0x4406 _ (names .errorCode) refl other i;
+        instructionLength = read-only 0x440C _ (names .instructionLength) refl other i;
+        cr0 = read 0x6800 _ (names .cr0) i;
+        cr0mask = read 0x6000 _ (names .cr0mask) i;
+        cr4 = read 0x6804 _ (names .cr4) i;
+        cr4mask = read 0x6002 _ (names .cr4mask) i;
+        limits = limitsIn (s .capabilities);
+      }
 
 abbrev Wide : ℕ → ℕ → Type 0
 Wide e v = ((e / 2 ^ 13 % 4 ≡ 0) × (2 ^ 16 ≤ v)) ⊎ ((e / 2 ^ 13 % 4 ≡ 2) × (2 ^ 32 ≤ v))
@@ -471,114 +600,145 @@ narrow-of e v =
     P : ℕ → Type 0
     P w = ltb (2 ^ w - 1) v ≡ false → Wide e v → ⊥
 
-write-step : (j : List Event) (s : Session) (e v : ℕ) → v < 2 ^ 64 → Sound s → Stepped j s (fieldWrite e v) (sessionStep s (fieldWrite e v))
+write-step : (t : Tally Event) (s : Session) (e v : ℕ) → v < 2 ^ 64 → Sound s → Stepped t s (fieldWrite e v) (sessionStep s (fieldWrite e v))
 unfolding Access.writeField vmcsWrite
-write-step j s e v small h =
+write-step t s e v small h =
     let c = fieldWrite e v in
     let all : length encodings ≡ 154 = table .0 in
     rw (of-lawful s (h .lawful))
     (cond-all P (leb 154 (positionOf encodings e)) _ _
-    (λ t. refuses j s c 3 refl (inl (λ m. omega (arith, listed-placed encodings e m, leb-true 154 (positionOf encodings e) t), refl)))
-    (λ t.
-    let found : positionOf encodings e < 154 = leb-false 154 (positionOf encodings e) t in
+    (λ y. refuses t s c 3 refl (inl (λ m. omega (arith, listed-placed encodings e m, leb-true 154 (positionOf encodings e) y), refl)))
+    (λ y.
+    let found : positionOf encodings e < 154 = leb-false 154 (positionOf encodings e) y in
     let listed : (List·Memᴰ e encodings → ⊥) → ⊥ = λ n. n (placed-listed encodings e (omega arith)) in
-    cond-all P (eqb (e / 2 ^ 10 % 4) 1) _ _ (λ u. refuses j s c 4 refl (inr (listed, inl (eqb-true _ _ u, refl))))
+    cond-all P (eqb (e / 2 ^ 10 % 4) 1) _ _ (λ u. refuses t s c 4 refl (inr (listed, inl (eqb-true _ _ u, refl))))
     (λ u. cond-all P (ltb (greatestOf e) v) _ _
-    (λ w. refuses j s c 5 refl (inr (listed, inr (eqb-false _ _ u, inl (wide-of e v small w, refl)))))
-    (λ w. quiet j s c (effect (viewOf j s) c) (withVmcs s (put (s .vmcs) (fieldOf e) v)) refl refl refl refl refl refl refl
-    (ap (bit 9) (raw-read e 0x6820 VmcsGuestNW.RFLAGS found rflags-named (s .vmcs) v (sound-sized s h) (ℕ-discrete e 0x6820)) ∙ choose-ap (bit 9)
-    (ℕ-discrete e 0x6820) v _)
-    (raw-read e 0x4824 VmcsGuest32.INTERRUPTIBILITY_STATE found state-named (s .vmcs) v (sound-sized s h) (ℕ-discrete e 0x4824))
-    refl
-    (ap (bit 31) (raw-read e 0x4016 VmcsControl32.VMENTRY_INTERRUPTION_INFO_FIELD found info-named (s .vmcs) v (sound-sized s h) (ℕ-discrete e 0x4016))
-    ∙ choose-ap (bit 31) (ℕ-discrete e 0x4016) v _)
-    refl
-    (inr (listed, inr (eqb-false _ _ u, inr (narrow-of e v w, refl))))))))
+    (λ w. refuses t s c 5 refl (inr (listed, inr (eqb-false _ _ u, inl (wide-of e v small w, refl)))))
+    (λ w. quiet t s c (withVmcs s (put (s .vmcs) (fieldOf e) v)) rests rests-quiet (λ _ _. refl) refl refl refl
+    (written-words s e v found h (eqb-false _ _ u)) (inr (listed, inr (eqb-false _ _ u, inr (narrow-of e v w, refl))))))))
   where
     P : FieldsWritten → Type 0
-    P a = Stepped j s (fieldWrite e v) (left (fieldsWritten s a))
+    P a = Stepped t s (fieldWrite e v) (left (fieldsWritten s a))
 
 -- ---- register write
 
-register-step : (j : List Event) (s : Session) (i v : ℕ) → Sound s → Stepped j s (registerWrite i v) (sessionStep s (registerWrite i v))
+register-step : (t : Tally Event) (s : Session) (i v : ℕ) → Sound s → Stepped t s (registerWrite i v) (sessionStep s (registerWrite i v))
 unfolding Access.setRegister withRegOfIndex
-register-step j s i v h =
+register-step t s i v h =
     let c = registerWrite i v in
     rw (of-lawful s (h .lawful))
-    (cond-all P (ltb 15 i) _ _ (λ t. refuses j s c 23 refl (inl (inr (ltb-true 15 i t), refl)))
-    (λ t. cond-all P (eqb i 4) _ _ (λ u. refuses j s c 23 refl (inl (inl (eqb-true _ _ u), refl)))
-    (λ u. quiet j s c (inPhase (viewOf j s) (s .progress .phase)) _ refl refl refl refl refl refl refl refl refl refl refl refl
-    (inr (λ o. elim o [ inl x ↦ eqb-false _ _ u x | inr y ↦ (let z = ltb-false 15 i t in omega arith) ], refl)))))
+    (cond-all P (ltb 15 i) _ _ (λ y. refuses t s c 23 refl (inl (inr (ltb-true 15 i y), refl)))
+    (λ y. cond-all P (eqb i 4) _ _ (λ u. refuses t s c 23 refl (inl (inl (eqb-true _ _ u), refl)))
+    (λ u. quiet t s c _ rests rests-quiet (λ _ _. refl) refl refl refl refl
+    (inr (λ o. elim o [ inl x ↦ eqb-false _ _ u x | inr x ↦ (let z = ltb-false 15 i y in omega arith) ], refl)))))
   where
     P : RegWritten → Type 0
-    P a = Stepped j s (registerWrite i v) (left (registersWritten s a))
+    P a = Stepped t s (registerWrite i v) (left (registersWritten s a))
 
 -- ---- exit report
 
-module _ (j : List Event) (s : Session) (block : List ℕ) (h : Sound s) where
+exit-is : (s : Session) (r : Report) → reportRefusal s r ≡ 0 → failed r ≡ false → Exit.exitReport s r ≡ Exit.reported 0 (Answers.answerOf r) (Exit.afterExit s r)
+unfolding Exit.exitReport Exit.accepted
+exit-is s r e f = rw (eq-eqb (reportRefusal s r) 0 e, f)
+
+module _ (t : Tally Event) (s : Session) (block : List ℕ) (h : Sound s) where
   abbrev report : Call
   report = exitReport block
 
   abbrev r : Report
   r = reportOf block
 
-  report-numbers : length block ≡ ReportLayout.LENGTH → Refuses (rules (viewOf j s) (guardedOf s) report) (Exit.exitReport s r .refusal)
-  report-numbers l =
-      inr (
-        λ n. n l,
-        subst (Refuses (reportRules (viewOf j s) (guardedOf s) r)) (sym (report-laws s r .number)) (report-refuses j s r (h .lawful)),
-      )
+  abbrev left-session : Session
+  left-session = Exit.exitReport s r .session
 
-  report-accepted : (f : Bool) → bit 31 (r .reason) ≡ f → reportRefusal s r ≡ 0 → Refuses (rules (viewOf j s) (guardedOf s) report) 0
-      → Stepped j s report (left (answered 0 (Exit.exitReport s r .session)))
-  report-accepted true f e w =
+  report-numbers : length block ≡ ReportLayout.LENGTH → Refuses (ownRules (viewOf t s) report) (Exit.exitReport s r .refusal)
+  report-numbers l =
+      inr (λ n. n l, subst (Refuses (reportRules (wordsOf s) r)) (sym (report-laws s r .number)) (report-refuses s r (h .lawful)))
+
+  failed-words : reportRefusal s r ≡ 0 → bit 31 (r .reason) ≡ true → wordsOf left-session ≡ inPhase (wordsOf s) 4
+  failed-words e f =
       let k = report-laws s r .rest in
       let a = report-laws s r .failure (sound-sized s h) e f in
-      quiet j s report (inPhase (viewOf j s) 4) (Exit.exitReport s r .session) (rw f) refl refl refl (k .queue) (k .entries) (k .held)
-      (ap (bit 9) (a .fields VmcsGuestNW.RFLAGS (lit< tt) refl)) (a .fields VmcsGuest32.INTERRUPTIBILITY_STATE (lit< tt) refl) (a .phase)
-      (ap (bit 31) (a .fields VmcsControl32.VMENTRY_INTERRUPTION_INFO_FIELD (lit< tt) refl))
-      (ap (λ (x : Capabilities). bit 9 (pairAt (x .pairs) 4 .allowed1)) (k .capabilities)) w
-  report-accepted false f e w =
+      λ i. record {
+        phase = a .phase i;
+        launched = k .launched i;
+        flag = bit 9 (a .fields VmcsGuestNW.RFLAGS (lit< tt) refl i);
+        interruptibility = a .fields VmcsGuest32.INTERRUPTIBILITY_STATE (lit< tt) refl i;
+        valid = bit 31 (a .fields VmcsControl32.VMENTRY_INTERRUPTION_INFO_FIELD (lit< tt) refl i);
+        window = bit 2 (a .fields VmcsControl32.PRIMARY_PROCBASED_EXEC_CONTROLS (lit< tt) refl i);
+        errorCode = a .fields VmcsReadOnly32.VMEXIT_INTERRUPTION_ERR_CODE (lit< tt) refl i;
+        instructionLength = a .fields VmcsReadOnly32.VMEXIT_INSTRUCTION_LEN (lit< tt) refl i;
+        cr0 = a .fields VmcsGuestNW.CR0 (lit< tt) refl i;
+        cr0mask = a .fields VmcsControlNW.CR0_GUEST_HOST_MASK (lit< tt) refl i;
+        cr4 = a .fields VmcsGuestNW.CR4 (lit< tt) refl i;
+        cr4mask = a .fields VmcsControlNW.CR4_GUEST_HOST_MASK (lit< tt) refl i;
+        limits = limitsIn (k .capabilities i);
+      }
+
+  -- the fields of an exit are those that its handling leaves
+  exit-fields : reportRefusal s r ≡ 0 → bit 31 (r .reason) ≡ false → left-session .vmcs ≡ Handlers.vmcsAfter (s .vmcs) (s .capabilities) r
+  unfolding Exit.afterExit
+  exit-fields e f = ap (λ (a : Reported). a .session .vmcs) (exit-is s r e f)
+
+  exit-words : reportRefusal s r ≡ 0 → bit 31 (r .reason) ≡ false → wordsOf left-session ≡ atExit (wordsOf s) r
+  exit-words e f =
       let k = report-laws s r .rest in
       let a = report-laws s r .exit (sound-sized s h) e f in
-      quiet j s report
-      (record {
-        answer = Empty;
-        flag = bit 9 (r .rflags);
-        interruptibility = r .interruptibility;
-        phase = choose
-            (waits r) 3 1;
-        valid = false;
-        ia32e = mayIa32e s;
-      })
-      (Exit.exitReport s r .session) (rw f) refl refl refl (k .queue) (k .entries) (k .held)
-      (ap (bit 9) (a .rflags)) (a .interruptibility) (a .phase ∙ phase-agrees r) (a .invalid)
-      (ap (λ (x : Capabilities). bit 9 (pairAt (x .pairs) 4 .allowed1)) (k .capabilities)) w
+      let z = sound-sized s h in
+      let p = passes s r e f .access in
+      let g : (x : Field) → valueOf (left-session .vmcs) x ≡ valueOf (Handlers.vmcsAfter (s .vmcs) (s .capabilities) r) x
+      = λ x. ap (λ (u : Vmcs). valueOf u x) (exit-fields e f) in
+      λ i. record {
+        phase = (a .phase ∙ phase-agrees r) i;
+        launched = k .launched i;
+        flag = bit 9 (a .rflags i);
+        interruptibility = a .interruptibility i;
+        valid = a .invalid i;
+        window = (ap (bit 2) (g VmcsControl32.PRIMARY_PROCBASED_EXEC_CONTROLS) ∙ exit-window (s .vmcs) (s .capabilities) r z) i;
+        errorCode = a .code i;
+        instructionLength = a .length i;
+        cr0 = (g VmcsGuestNW.CR0 ∙ exit-cr0 (s .vmcs) (s .capabilities) r z p) i;
+        cr0mask = (g VmcsControlNW.CR0_GUEST_HOST_MASK ∙ exit-cr0-mask (s .vmcs) (s .capabilities) r z p) i;
+        cr4 = (g VmcsGuestNW.CR4 ∙ exit-cr4 (s .vmcs) (s .capabilities) r z p) i;
+        cr4mask = (g VmcsControlNW.CR4_GUEST_HOST_MASK ∙ exit-cr4-mask (s .vmcs) (s .capabilities) r z p) i;
+        limits = limitsIn (k .capabilities i);
+      }
 
-  report-decided : length block ≡ ReportLayout.LENGTH → (t : Bool) → eqb (reportRefusal s r) 0 ≡ t
-      → Stepped j s report (left (answered (Exit.exitReport s r .refusal) (Exit.exitReport s r .session)))
+  report-accepted : (f : Bool) → bit 31 (r .reason) ≡ f → reportRefusal s r ≡ 0 → Refuses (ownRules (viewOf t s) report) 0
+      → Stepped t s report (left (answered 0 left-session))
+  report-accepted true f e w =
+      let k = report-laws s r .rest in
+      quiet t s report left-session fails (record { tally = λ _. refl; pending = λ _. refl; answer = refl }) (λ _ _. rw f) (k .queue) (k .entries) (k .held)
+      (failed-words e f ∙ rw f) w
+  report-accepted false f e w =
+      let k = report-laws s r .rest in
+      quiet t s report left-session exits (record { tally = λ _. refl; pending = λ _. refl; answer = refl }) (λ _ _. rw f) (k .queue) (k .entries) (k .held)
+      (exit-words e f ∙ rw f) w
+
+  report-decided : length block ≡ ReportLayout.LENGTH → (y : Bool) → eqb (reportRefusal s r) 0 ≡ y
+      → Stepped t s report (left (answered (Exit.exitReport s r .refusal) left-session))
   report-decided l true e =
       let z = eqb-true _ _ e in
       let y = report-laws s r .number ∙ z in
-      subst (λ (n : ℕ). Stepped j s report (left (answered n (Exit.exitReport s r .session)))) (sym y)
-      (report-accepted (bit 31 (r .reason)) refl z (subst (Refuses (rules (viewOf j s) (guardedOf s) report)) y (report-numbers l)))
+      subst (λ (n : ℕ). Stepped t s report (left (answered n left-session))) (sym y)
+      (report-accepted (bit 31 (r .reason)) refl z (subst (Refuses (ownRules (viewOf t s) report)) y (report-numbers l)))
   report-decided l false e =
-      subst (λ (t : Session). Stepped j s report (left (answered (Exit.exitReport s r .refusal) t))) (sym (report-laws s r .refused e))
-      (refuses j s report (Exit.exitReport s r .refusal) (ap (λ (n : ℕ). eqb n 0) (report-laws s r .number) ∙ e) (report-numbers l))
+      subst (λ (u : Session). Stepped t s report (left (answered (Exit.exitReport s r .refusal) u))) (sym (report-laws s r .refused e))
+      (refuses t s report (Exit.exitReport s r .refusal) (ap (λ (n : ℕ). eqb n 0) (report-laws s r .number) ∙ e) (report-numbers l))
 
-  report-step : Stepped j s report (sessionStep s report)
+  report-step : Stepped t s report (sessionStep s report)
   report-step =
-      cond-all (λ (a : Answered). Stepped j s report (left a)) (eqb (length block) ReportLayout.LENGTH) _ _
-      (λ t. report-decided (eqb-true _ _ t) (eqb (reportRefusal s r) 0) refl) (λ t. refuses j s report 2 refl (inl (eqb-false _ _ t, refl)))
+      cond-all (λ (a : Answered). Stepped t s report (left a)) (eqb (length block) ReportLayout.LENGTH) _ _
+      (λ y. report-decided (eqb-true _ _ y) (eqb (reportRefusal s r) 0) refl) (λ y. refuses t s report 2 refl (inl (eqb-false _ _ y, refl)))
 
 -- ---- every call
 
-pub step : (j : List Event) (s : Session) (c : Call) → WellTyped c → Sound s → Stepped j s c (sessionStep s c)
-step j s (setup block a b msr) w h = setup-step j s block a b msr (typed block w) h
-step j s (queueEvent vector coded code) w h = queue-step j s h vector coded code
-step j s (injectInterrupt vector) w h = interrupt-step j s h vector
-step j s (entry stack) w h = enter-step j s stack h
-step j s (exitReport block) w h = report-step j s block h
-step j s (apicValue value) w h = apic-step j s value h
-step j s (fieldWrite encoding value) w h = write-step j s encoding value (w .1) h
-step j s (registerWrite index value) w h = register-step j s index value h
+pub step : (t : Tally Event) (s : Session) (c : Call) → WellTyped c → Sound s → Stepped t s c (sessionStep s c)
+step t s (setup block a b msr) w h = setup-step t s block a b msr (typed block w) h
+step t s (queueEvent vector coded code) w h = queue-step t s h vector coded code
+step t s (injectInterrupt vector) w h = interrupt-step t s h vector
+step t s (entry stack) w h = enter-step t s stack h
+step t s (exitReport block) w h = report-step t s block h
+step t s (apicValue value) w h = apic-step t s value h
+step t s (fieldWrite encoding value) w h = write-step t s encoding value (w .1) h
+step t s (registerWrite index value) w h = register-step t s index value h

@@ -1,9 +1,9 @@
 -- A list of calls on one session's byte record, each as the exported function's contract gives it, and what is counted and listed of them: what demand 3
 -- compares with the reference. Assumes nothing.
-use Prim.Native.Nat.{ℕ, _+_, _/_}
+use Prim.Native.Nat.{ℕ, _/_}
 use mathlib.Core.Path.{_≡_}
 use mathlib.Core.Bool.{Bool, true, false, cond, not, _||_}
-use mathlib.Core.List.{List, [], _∷_, _++_}
+use mathlib.Core.List.{List, [], _∷_}
 use mathlib.Core.Option.{none, some}
 use lib.Dec.{eqb}
 use lib.ListN.{take, replicate}
@@ -14,7 +14,11 @@ use Rattle.vmcs.specs.Names.VmcsControl32 as VmcsControl32
 use Rattle.vmcs.specs.Names.VmcsControlNW as VmcsControlNW
 use Rattle.vmcs.specs.Names.VmcsGuest32 as VmcsGuest32
 use Rattle.vmcs.specs.Names.VmcsGuestNW as VmcsGuestNW
+use Rattle.vmcs.specs.Names.VmcsReadOnly32 as VmcsReadOnly32
+use Rattle.vmcs.specs.declared.controls.Pair.{Pair}
 use Rattle.vcpu_session.specs.Session.{newSession}
+use Rattle.vcpu_session.specs.declared.Capabilities.{Capabilities}
+use Rattle.vcpu_session.specs.declared.Fixed.{Fixed}
 use Rattle.vcpu_session.specs.declared.Session.{Session}
 use Rattle.vcpu_events.specs.Queue as Queue
 use Rattle.vcpu_events.specs.declared.Injection.{Injection}
@@ -24,31 +28,33 @@ use Rattle.record.specs.Codec.{sessionOf, encodeOf, Encoded}
 use Rattle.call_specs.specs.Records.{callOf, queueStep, EntryCall, entryCall, FramesCall}
 use Rattle.call_specs.specs.SetupCall.{setupCall}
 use Rattle.call_specs.specs.ReportCall.{ReportCall, reportCall}
-use Rattle.calls.specs.Reference.{Call, setup, queueEvent, injectInterrupt, entry, exitReport, apicValue, fieldWrite, registerWrite, Event, Reference, Guarded, Fed, queuedBy, entriesBy, injectedBy, heldBy}
+use Rattle.calls.specs.Moves.{Move, rests, Tally, begun, talliedAll}
+use Rattle.calls.specs.Reference.{Call, setup, queueEvent, injectInterrupt, entry, exitReport, apicValue, fieldWrite, registerWrite, Event, moveBy, Bounds, Limits, Words, Reference, Fed}
 
 -- ---- one call
 
--- its refusal or 0, what an entry does with the front (Empty for every other call), and the state that it leaves
+-- its refusal or 0, what an entry does with the front and whether it resumes (Empty and no for every other call), and the state that it leaves
 pub record Outcome (S : Type 0) : Type 0 where
   pub refusal : ℕ
   pub answer : Injection
+  pub resumed : Bool
   pub state : S
 
 abbrev pub plain : Encoded → Outcome (List ℕ)
-plain r = record { refusal = r .refusal; answer = Empty; state = r .bytes }
+plain r = record { refusal = r .refusal; answer = Empty; resumed = false; state = r .bytes }
 
 abbrev pub framed : FramesCall → Outcome (List ℕ)
-framed r = record { refusal = r .refusal; answer = Empty; state = r .bytes }
+framed r = record { refusal = r .refusal; answer = Empty; resumed = false; state = r .bytes }
 
 abbrev pub reported : ReportCall → Outcome (List ℕ)
-reported r = record { refusal = r .refusal; answer = Empty; state = r .bytes }
+reported r = record { refusal = r .refusal; answer = Empty; resumed = false; state = r .bytes }
 
 -- the injection with a number
 abbrev pub numbered : ℕ → Injection
 numbered n = cond (eqb n 0) Empty (cond (eqb n 1) Held Written)
 
 abbrev pub entered : EntryCall → Outcome (List ℕ)
-entered r = record { refusal = r .refusal; answer = numbered (r .injection); state = r .bytes }
+entered r = record { refusal = r .refusal; answer = numbered (r .injection); resumed = eqb (r .resumed) 1; state = r .bytes }
 
 -- the call on a record. What the results of an entry and the answer of a report hold before it does not matter (Contracts.antt): 0 here
 abbrev pub stepOf : List ℕ → Call → Outcome (List ℕ)
@@ -76,28 +82,50 @@ eventsOf (v ∷ vs) coded (c ∷ cs) = eventOf v (bit 0 coded) c ∷ eventsOf vs
 abbrev pub waitingOf : Session → List Event
 waitingOf s = take (s .queue .waiting) (eventsOf (s .queue .vectors) (s .queue .coded) (s .queue .codes))
 
--- what the reference has of a session, once the events `before` are injected
-abbrev pub viewOf : List Event → Session → Reference
-viewOf before s =
+abbrev pub pairBounds : Pair → Bounds
+pairBounds p = record { must = p .allowed0; may = p .allowed1 }
+
+abbrev pub fixedBounds : Fixed → Bounds
+fixedBounds f = record { must = f .fixed0; may = f .fixed1 }
+
+-- what the session says that the processor permits
+abbrev pub limitsIn : Capabilities → Limits
+limitsIn c =
     record {
-      injected = before;
-      pending = waitingOf s;
-      entries = s .progress .entries;
-      held = s .progress .held;
-      flag = bit 9 (valueOf (s .vmcs) VmcsGuestNW.RFLAGS);
-      interruptibility = valueOf (s .vmcs) VmcsGuest32.INTERRUPTIBILITY_STATE;
-      phase = s .progress .phase;
-      valid = bit 31 (valueOf (s .vmcs) VmcsControl32.VMENTRY_INTERRUPTION_INFO_FIELD);
-      ia32e = bit 9 (pairAt (s .capabilities .pairs) 4 .allowed1);
+      pin = pairBounds (pairAt (c .pairs) 0);
+      primary = pairBounds (pairAt (c .pairs) 1);
+      secondary = pairBounds (pairAt (c .pairs) 2);
+      exit = pairBounds (pairAt (c .pairs) 3);
+      entry = pairBounds (pairAt (c .pairs) 4);
+      cr0 = fixedBounds (c .cr0);
+      cr4 = fixedBounds (c .cr4);
     }
 
-abbrev pub guardedOf : Session → Guarded
-guardedOf s =
+abbrev pub wordsOf : Session → Words
+wordsOf s =
     record {
+      phase = s .progress .phase;
+      launched = s .progress .launched;
+      flag = bit 9 (valueOf (s .vmcs) VmcsGuestNW.RFLAGS);
+      interruptibility = valueOf (s .vmcs) VmcsGuest32.INTERRUPTIBILITY_STATE;
+      valid = bit 31 (valueOf (s .vmcs) VmcsControl32.VMENTRY_INTERRUPTION_INFO_FIELD);
+      window = bit 2 (valueOf (s .vmcs) VmcsControl32.PRIMARY_PROCBASED_EXEC_CONTROLS);
+      errorCode = valueOf (s .vmcs) VmcsReadOnly32.VMEXIT_INTERRUPTION_ERR_CODE;
+      instructionLength = valueOf (s .vmcs) VmcsReadOnly32.VMEXIT_INSTRUCTION_LEN;
       cr0 = valueOf (s .vmcs) VmcsGuestNW.CR0;
       cr0mask = valueOf (s .vmcs) VmcsControlNW.CR0_GUEST_HOST_MASK;
       cr4 = valueOf (s .vmcs) VmcsGuestNW.CR4;
       cr4mask = valueOf (s .vmcs) VmcsControlNW.CR4_GUEST_HOST_MASK;
+      limits = limitsIn (s .capabilities);
+    }
+
+-- what the reference has of a session, once these events were queued and injected: the counts are the session's
+abbrev pub viewOf : Tally Event → Session → Reference
+viewOf t s =
+    record {
+      tally = record { queued = t .queued; injected = t .injected; entries = s .progress .entries; held = s .progress .held };
+      pending = waitingOf s;
+      words = wordsOf s;
     }
 
 -- ---- a list of calls
@@ -129,6 +157,9 @@ newRecord = encodeOf newSession
 abbrev pub after : List ℕ → List Call → List ℕ
 after = afterAll stepOf (λ b. waitingOf (sessionOf b))
 
+abbrev pub loggedOf : List ℕ → Call → Logged
+loggedOf = logged stepOf (λ b. waitingOf (sessionOf b))
+
 abbrev pub historyOf : List ℕ → List Call → List Logged
 historyOf = logOf stepOf (λ b. waitingOf (sessionOf b))
 
@@ -157,33 +188,17 @@ abbrev pub answers : List Logged → List Injection
 answers [] = []
 answers (l ∷ ls) = l .answer ∷ answers ls
 
--- the events that accepted calls queue, in order
-abbrev pub queuedAt : Logged → List Event
-queuedAt l = cond (isRefused (l .refusal)) [] (queuedBy (l .call))
+-- what each call does to the queue: nothing, if it is refused
+abbrev pub moveOf : Logged → Move Event
+moveOf l = cond (isRefused (l .refusal)) rests (moveBy (l .call) (l .answer) (l .waiting))
 
-abbrev pub queued : List Logged → List Event
-queued [] = []
-queued (l ∷ ls) = queuedAt l ++ queued ls
+abbrev pub movesOf : List Logged → List (Move Event)
+movesOf [] = []
+movesOf (l ∷ ls) = moveOf l ∷ movesOf ls
 
--- the events that are injected: the front, at each call that answers Written
-abbrev pub injectedAt : Logged → List Event
-injectedAt l = injectedBy (l .answer) (l .waiting)
-
-abbrev pub injected : List Logged → List Event
-injected [] = []
-injected (l ∷ ls) = injectedAt l ++ injected ls
-
--- accepted entries, and those of them that held the front
-abbrev pub entriesAt : Logged → ℕ
-entriesAt l = cond (isRefused (l .refusal)) 0 (entriesBy (l .call))
-
-abbrev pub entries : List Logged → ℕ
-entries [] = 0
-entries (l ∷ ls) = entriesAt l + entries ls
-
-abbrev pub holds : List Logged → ℕ
-holds [] = 0
-holds (l ∷ ls) = heldBy (l .answer) + holds ls
+-- the events queued and injected, the entries and those that held the front
+abbrev pub tallyOf : List Logged → Tally Event
+tallyOf ls = talliedAll begun (movesOf ls)
 
 -- the call is a raw write of the field with this encoding
 abbrev pub writesField : ℕ → Call → Bool
@@ -197,6 +212,6 @@ writesField x (fieldWrite encoding value) = eqb encoding x
 writesField x (registerWrite index value) = false
 
 -- such a write was accepted
-abbrev pub written : ℕ → List Logged → Bool
+abbrev pub written : ℕ → List Fed → Bool
 written x [] = false
-written x (l ∷ ls) = cond (isRefused (l .refusal)) false (writesField x (l .call)) || written x ls
+written x (l ∷ ls) = cond (l .refused) false (writesField x (l .call)) || written x ls

@@ -3,6 +3,7 @@ use Prim.Native.Nat.{ℕ}
 use mathlib.Core.Path.{_≡_}
 use mathlib.Core.Bool.{false}
 use mathlib.Core.List.{List}
+use Rattle.bits.specs.Words.{flag}
 use Rattle.vcpu_events.specs.Queue as Queue
 use Rattle.vcpu_events.specs.Entry.{injectionNumber}
 use Rattle.vcpu_events.specs.declared.Injection.the-variants.{Empty}
@@ -15,13 +16,14 @@ use Rattle.calls.specs.Calls.{stepOf, newRecord, isRefused}
 
 -- a call other than an entry answers r and leaves the record x
 abbrev pub Does : List ℕ → Call → ℕ → List ℕ → Type 0
-Does b c r x = stepOf b c ≡ record { refusal = r; answer = Empty; state = x }
+Does b c r x = stepOf b c ≡ record { refusal = r; answer = Empty; resumed = false; state = x }
 
--- an entry answers r, leaves the record x, and stores y for what it did with the front, where it is accepted
-pub record Enters (b : List ℕ) (stack r : ℕ) (x : List ℕ) (y : ℕ) : Type 0 where
+-- an entry answers r, leaves the record x, and, where it is accepted, stores y for whether it resumes and z for what it did with the front
+pub record Enters (b : List ℕ) (stack r : ℕ) (x : List ℕ) (y z : ℕ) : Type 0 where
   pub refusal : stepOf b (entry stack) .refusal ≡ r
   pub state : stepOf b (entry stack) .state ≡ x
-  pub answer : isRefused r ≡ false → injectionNumber (stepOf b (entry stack) .answer) ≡ y
+  pub resumed : isRefused r ≡ false → flag (stepOf b (entry stack) .resumed) ≡ y
+  pub answer : isRefused r ≡ false → injectionNumber (stepOf b (entry stack) .answer) ≡ z
 
 pub record Contracts (b : List ℕ) : Type 0 where
   -- vcpu_new, accepted, leaves the record that lists start from
@@ -33,7 +35,7 @@ pub record Contracts (b : List ℕ) : Type 0 where
   -- vcpu_inject_interrupt
   pub interrupt : (vector r : ℕ) (after : List ℕ) → Called (λ s. Queue.injectInterrupt s vector) b r after → Does b (injectInterrupt vector) r after
   -- vcpu_entry, whatever its two results held
-  pub enter : (stack resumed injection r : ℕ) (after : List ℕ) (x y : ℕ) → EntryCalled stack b resumed injection r after x y → Enters b stack r after y
+  pub enter : (stack resumed injection r : ℕ) (after : List ℕ) (x y : ℕ) → EntryCalled stack b resumed injection r after x y → Enters b stack r after x y
   -- vcpu_exit_report, whatever its answer held
   pub report : (block words : List ℕ) (r : ℕ) (after words' : List ℕ) → ReportCalled b block words r after words' → Does b (exitReport block) r after
   -- vcpu_apic_value

@@ -3,13 +3,14 @@
 use Prim.Native.Nat.{ℕ, _+_, _*_, _/_, _%_, _^_, _<_, _≤_}
 use mathlib.Core.Path.{_≡_}
 use mathlib.Core.Logic.{_⊎_, _≢_, inl, inr}
-use mathlib.Core.Bool.{Bool, true, false, cond, Bool-discrete}
+use mathlib.Core.Bool.{Bool, true, false, cond, Bool-discrete, _&&_, _||_}
 use mathlib.Core.List.{List, [], _∷_, _++_, List·Memᴰ}
 use mathlib.Core.Option.{Option, none, some}
 use native.Mathlib.Decide.{decLe, ℕ-discrete}
+use lib.Bits.{bitAnd, bitOr}
 use lib.Dec.{T, eqb}
-use lib.ListN.{length, getD, take, drop}
-use Rattle.bits.specs.Words.{bit, flag, low32, high32, Within, Apart}
+use lib.ListN.{length, getD, drop}
+use Rattle.bits.specs.Words.{bit, bitNot, flag, low32, high32, Within, Apart}
 use Rattle.bits.specs.LittleEndian.{littleEndian, Below}
 use Rattle.bits.specs.Refuses.{Rule, by, Refuses}
 use Rattle.regs.specs.Registers.{listOf}
@@ -23,6 +24,7 @@ use Rattle.blocks.specs.ReportLayout as ReportLayout
 use Rattle.blocks.specs.ReportBlock.{reportOf}
 use Rattle.blocks.specs.SetupLayout as Layout
 use Rattle.blocks.specs.SetupBlock.{msrsOf, featuresOf}
+use Rattle.calls.specs.Moves.{Move, queues, finds-none, holds, writes, exits, fails, rests, moved, answerOf, Tally, begun, tallied}
 
 -- ---- choices by a decision
 
@@ -79,63 +81,137 @@ pub record Event : Type 0 where
   pub vector : ℕ
   pub code : Option ℕ
 
--- the events that a call queues, if it is accepted
-abbrev pub queuedBy : Call → List Event
-queuedBy (setup block a b msr) = []
-queuedBy (queueEvent vector coded code) = record { vector = vector; code = cond (eqb coded 1) (some code) none } ∷ []
-queuedBy (injectInterrupt vector) = record { vector = vector; code = none } ∷ []
-queuedBy (entry stack) = []
-queuedBy (exitReport block) = []
-queuedBy (apicValue value) = []
-queuedBy (fieldWrite encoding value) = []
-queuedBy (registerWrite index value) = []
+-- an entry that gives this answer about the front of these events. (None answers Written where none waits: `Answers` of DemandThree.antt)
+abbrev pub entryMove : Injection → List Event → Move Event
+entryMove Empty w = finds-none
+entryMove Held w = holds
+entryMove Written [] = finds-none
+entryMove Written (e ∷ w) = writes e
 
--- 1 for an entry
-abbrev pub entriesBy : Call → ℕ
-entriesBy (setup block a b msr) = 0
-entriesBy (queueEvent vector coded code) = 0
-entriesBy (injectInterrupt vector) = 0
-entriesBy (entry stack) = 1
-entriesBy (exitReport block) = 0
-entriesBy (apicValue value) = 0
-entriesBy (fieldWrite encoding value) = 0
-entriesBy (registerWrite index value) = 0
+-- what an accepted call does to the queue: an entry by its answer and the events that wait
+abbrev pub moveBy : Call → Injection → List Event → Move Event
+moveBy (setup block a b msr) answer w = rests
+moveBy (queueEvent vector coded code) answer w = queues (record { vector = vector; code = cond (eqb coded 1) (some code) none })
+moveBy (injectInterrupt vector) answer w = queues (record { vector = vector; code = none })
+moveBy (entry stack) answer w = entryMove answer w
+moveBy (exitReport block) answer w = cond (bit 31 (reportOf block .reason)) fails exits
+moveBy (apicValue value) answer w = rests
+moveBy (fieldWrite encoding value) answer w = rests
+moveBy (registerWrite index value) answer w = rests
 
--- what an answer does with the pending events
-abbrev pub injectedBy : Injection → List Event → List Event
-injectedBy Empty w = []
-injectedBy Held w = []
-injectedBy Written w = take 1 w
+-- ---- what the processor permits (SDM 3D, A.2 to A.8)
 
-abbrev pub leftBy : Injection → List Event → List Event
-leftBy Empty w = w
-leftBy Held w = w
-leftBy Written w = drop 1 w
+-- the bits that must be 1 and those that may be: allowed-0 and allowed-1 of a control, fixed-0 and fixed-1 of CR0 and CR4
+pub record Bounds : Type 0 where
+  pub must : ℕ
+  pub may : ℕ
 
-abbrev pub heldBy : Injection → ℕ
-heldBy Empty = 0
-heldBy Held = 1
-heldBy Written = 0
+-- the capability MSR of a control has allowed-0 in its low half, allowed-1 in its high half
+abbrev pub halvesOf : ℕ → Bounds
+halvesOf msr = record { must = low32 msr; may = high32 msr }
+
+pub record Limits : Type 0 where
+  pub pin : Bounds
+  pub primary : Bounds
+  pub secondary : Bounds
+  pub exit : Bounds
+  pub entry : Bounds
+  pub cr0 : Bounds
+  pub cr4 : Bounds
+
+-- by the MSRs that setup is given: the TRUE words, and 0x48B for the secondary controls
+abbrev pub limitsOf : CapabilityMsrs → Limits
+limitsOf m =
+    record {
+      pin = halvesOf (m .truepinbased);
+      primary = halvesOf (m .trueprocbased);
+      secondary = halvesOf (m .procbased2);
+      exit = halvesOf (m .trueexit);
+      entry = halvesOf (m .trueentry);
+      cr0 = record { must = m .cr0fixed0; may = m .cr0fixed1 };
+      cr4 = record { must = m .cr4fixed0; may = m .cr4fixed1 };
+    }
+
+-- ---- the guest's CR0 and CR4 (SDM 3C, 25.6.6; 3D, A.7 and A.8)
+
+-- the value that is asked for, with every bit that must be 1 and none that may not be; and the guest/host mask, which owns just these bits
+abbrev pub crValue : Bounds → ℕ → ℕ
+crValue b asked = bitOr (bitAnd asked (b .may)) (b .must)
+
+abbrev pub crMask : Bounds → ℕ
+crMask b = bitOr (b .must) (bitNot 64 (b .may))
+
+-- of CR0: PE (bit 0) and PG (bit 31) need not be 1, since unrestricted guest is on; NW (bit 29) and CD (bit 30) may not be
+abbrev pub cr0Bounds : Limits → Bounds
+cr0Bounds l = record { must = bitAnd (l .cr0 .must) (bitNot 64 0x80000001); may = bitAnd (l .cr0 .may) (bitNot 64 0x60000000) }
+
+-- of CR4, VMXE (bit 13) is always asked for
+abbrev pub cr4Asked : ℕ → ℕ
+cr4Asked x = bitOr x 0x2000
 
 -- ---- the reference
 
-pub record Reference : Type 0 where
-  pub injected : List Event
-  pub pending : List Event
-  pub entries : ℕ
-  pub held : ℕ
+-- what it keeps beside the queue and the counts
+pub record Words : Type 0 where
+  -- 0 fresh, 1 ready, 2 running, 3 waiting, 4 ended
+  pub phase : ℕ
+  -- an entry was accepted: the next one resumes
+  pub launched : Bool
   -- IF, which is RFLAGS bit 9
   pub flag : Bool
   pub interruptibility : ℕ
-  -- 0 fresh, 1 ready, 2 running, 3 waiting, 4 ended
-  pub phase : ℕ
   -- bit 31 of the entry interruption field
   pub valid : Bool
-  -- whether the entry controls may have bit 9, IA-32e mode guest: allowed-1 as setup was given it
-  pub ia32e : Bool
+  -- interrupt-window exiting, which is bit 2 of the primary controls
+  pub window : Bool
+  -- the error code and the instruction length of the last exit that was no failed entry
+  pub errorCode : ℕ
+  pub instructionLength : ℕ
+  -- CR0 and CR4, and their guest/host masks
+  pub cr0 : ℕ
+  pub cr0mask : ℕ
+  pub cr4 : ℕ
+  pub cr4mask : ℕ
+  -- what the processor permits, as setup was told
+  pub limits : Limits
+
+pub record Reference : Type 0 where
+  pub tally : Tally Event
+  pub pending : List Event
+  pub words : Words
+
+abbrev pub noBounds : Bounds
+noBounds = record { must = 0; may = 0 }
 
 abbrev pub start : Reference
-start = record { injected = []; pending = []; entries = 0; held = 0; flag = false; interruptibility = 0; phase = 0; valid = false; ia32e = false }
+start =
+    record {
+      tally = begun;
+      pending = [];
+      words = record {
+        phase = 0;
+        launched = false;
+        flag = false;
+        interruptibility = 0;
+        valid = false;
+        window = false;
+        errorCode = 0;
+        instructionLength = 0;
+        cr0 = 0;
+        cr0mask = 0;
+        cr4 = 0;
+        cr4mask = 0;
+        limits = record {
+          pin = noBounds;
+          primary = noBounds;
+          secondary = noBounds;
+          exit = noBounds;
+          entry = noBounds;
+          cr0 = noBounds;
+          cr4 = noBounds;
+        };
+      };
+    }
 
 -- a front of this vector is held
 abbrev pub IsHeld : ℕ → Bool → ℕ → Type 0
@@ -149,10 +225,11 @@ abbrev pub answerOn : List Event → Bool → ℕ → Injection
 answerOn [] flag interruptibility = Empty
 answerOn (e ∷ es) flag interruptibility = choose (isHeld (e .vector) flag interruptibility) Held Written
 
-abbrev pub validBy : Injection → Bool → Bool
-validBy Empty valid = valid
-validBy Held valid = valid
-validBy Written valid = true
+-- what a call that is accepted does to the queue
+abbrev pub moveOn : Reference → Call → Move Event
+moveOn p c = moveBy c (answerOn (p .pending) (p .words .flag) (p .words .interruptibility)) (p .pending)
+
+-- ---- what a report says
 
 -- the basic reason of an exit, ECX, and whether that is an x2APIC register's MSR
 abbrev pub basicReason : Report → ℕ
@@ -171,66 +248,147 @@ namesApic r = both (decLe 0x800 (ecxOf r)) (decLe (ecxOf r) 0x8FF)
 abbrev pub waits : (r : Report) → Dec ((basicReason r ≡ 31) × NamesApic r)
 waits r = both (ℕ-discrete (basicReason r) 31) (namesApic r)
 
--- what an accepted call answers about the front, and the words it leaves
-pub record Effect : Type 0 where
-  pub answer : Injection
-  pub flag : Bool
-  pub interruptibility : ℕ
-  pub phase : ℕ
-  pub valid : Bool
-  pub ia32e : Bool
+-- reason 28's qualification: bits 0 to 3 the control register, 4 to 5 the access (0 is a move to it), 8 to 11 the general register, of which 4 is RSP
+abbrev pub MovesTo : ℕ → Report → Type 0
+MovesTo n r = (r .qualification / 2 ^ 4 % 4 ≡ 0) × (r .qualification % 2 ^ 4 ≡ n)
 
--- the words stay
-abbrev pub inPhase : Reference → ℕ → Effect
-inPhase p phase = record { answer = Empty; flag = p .flag; interruptibility = p .interruptibility; phase = phase; valid = p .valid; ia32e = p .ia32e }
+abbrev pub movedBy : Report → ℕ
+movedBy r = choose (ℕ-discrete (r .qualification / 2 ^ 8 % 2 ^ 4) 4) (r .rsp) (getD (listOf (r .regs)) (r .qualification / 2 ^ 8 % 2 ^ 4) 0)
 
--- a failed entry ends the session; any other exit gives the words anew, and clears bit 31 of the entry interruption field
-abbrev pub exitEffect : Reference → Report → Effect
-exitEffect p r =
-    cond (bit 31 (r .reason)) (inPhase p 4)
-    (record { answer = Empty; flag = bit 9 (r .rflags); interruptibility = r .interruptibility; phase = choose (waits r) 3 1; valid = false; ia32e = p .ia32e })
+-- an exit by a move to the control register n
+abbrev pub moves : (n : ℕ) (r : Report) → Dec ((basicReason r ≡ 28) × MovesTo n r)
+moves n r = both (ℕ-discrete (basicReason r) 28) (both (ℕ-discrete (r .qualification / 2 ^ 4 % 4) 0) (ℕ-discrete (r .qualification % 2 ^ 4) n))
 
-abbrev pub effect : Reference → Call → Effect
-effect p (setup block a b msr) =
-    record { answer = Empty; flag = false; interruptibility = 0; phase = 1; valid = p .valid; ia32e = bit 9 (high32 (msrsOf block .trueentry)) }
-effect p (queueEvent vector coded code) = inPhase p (p .phase)
-effect p (injectInterrupt vector) = inPhase p (p .phase)
-effect p (entry stack) =
-    let a = answerOn (p .pending) (p .flag) (p .interruptibility) in
-    record { answer = a; flag = p .flag; interruptibility = p .interruptibility; phase = 2; valid = validBy a (p .valid); ia32e = p .ia32e }
-effect p (exitReport block) = exitEffect p (reportOf block)
-effect p (apicValue value) = inPhase p 1
-effect p (fieldWrite encoding value) =
+-- ---- the words that an accepted call leaves
+
+abbrev pub inPhase : Words → ℕ → Words
+inPhase w phase =
     record {
-      answer = Empty;
-      flag = choose (ℕ-discrete encoding 0x6820) (bit 9 value) (p .flag);
-      interruptibility = choose (ℕ-discrete encoding 0x4824) value (p .interruptibility);
-      phase = p .phase;
-      valid = choose (ℕ-discrete encoding 0x4016) (bit 31 value) (p .valid);
-      ia32e = p .ia32e;
+      phase = phase;
+      launched = w .launched;
+      flag = w .flag;
+      interruptibility = w .interruptibility;
+      valid = w .valid;
+      window = w .window;
+      errorCode = w .errorCode;
+      instructionLength = w .instructionLength;
+      cr0 = w .cr0;
+      cr0mask = w .cr0mask;
+      cr4 = w .cr4;
+      cr4mask = w .cr4mask;
+      limits = w .limits;
     }
-effect p (registerWrite index value) = inPhase p (p .phase)
 
-abbrev pub accept : Reference → Call → Effect → Reference
-accept p c x =
+-- setup: IF is clear and nothing is blocked (RFLAGS is 2, interruptibility 0). CR0 is asked to be NW, CD and ET (0x60000010), CR4 0. A primary bit that
+-- may be 0 or 1, and that setup does not choose, is as in the low half of the plain word, 0x482
+abbrev pub atSetup : Words → CapabilityMsrs → Words
+atSetup w m =
     record {
-      injected = p .injected ++ injectedBy (x .answer) (p .pending);
-      pending = leftBy (x .answer) (p .pending) ++ queuedBy c;
-      entries = p .entries + entriesBy c;
-      held = p .held + heldBy (x .answer);
-      flag = x .flag;
-      interruptibility = x .interruptibility;
-      phase = x .phase;
-      valid = x .valid;
-      ia32e = x .ia32e;
+      phase = 1;
+      launched = w .launched;
+      flag = false;
+      interruptibility = 0;
+      valid = w .valid;
+      window = bit 2 (limitsOf m .primary .must) || (bit 2 (limitsOf m .primary .may) && bit 2 (low32 (m .procbased)));
+      errorCode = w .errorCode;
+      instructionLength = w .instructionLength;
+      cr0 = crValue (cr0Bounds (limitsOf m)) 0x60000010;
+      cr0mask = crMask (cr0Bounds (limitsOf m));
+      cr4 = crValue (limitsOf m .cr4) (cr4Asked 0);
+      cr4mask = crMask (limitsOf m .cr4);
+      limits = limitsOf m;
     }
+
+abbrev pub validBy : Injection → Bool → Bool
+validBy Empty valid = valid
+validBy Held valid = valid
+validBy Written valid = true
+
+abbrev pub windowBy : Injection → Bool → Bool
+windowBy Empty window = window
+windowBy Held window = true
+windowBy Written window = window
+
+-- an entry: an event that is written is valid, one that is held asks for the window
+abbrev pub atEntry : Words → Injection → Words
+atEntry w answer =
+    record {
+      phase = 2;
+      launched = true;
+      flag = w .flag;
+      interruptibility = w .interruptibility;
+      valid = validBy answer (w .valid);
+      window = windowBy answer (w .window);
+      errorCode = w .errorCode;
+      instructionLength = w .instructionLength;
+      cr0 = w .cr0;
+      cr0mask = w .cr0mask;
+      cr4 = w .cr4;
+      cr4mask = w .cr4mask;
+      limits = w .limits;
+    }
+
+-- an exit gives the words anew, and clears bit 31 of the entry interruption field. An interrupt window (reason 7) is no longer asked for. A move to CR0 or CR4
+-- is carried out
+abbrev pub atExit : Words → Report → Words
+atExit w r =
+    record {
+      phase = choose (waits r) 3 1;
+      launched = w .launched;
+      flag = bit 9 (r .rflags);
+      interruptibility = r .interruptibility;
+      valid = false;
+      window = choose (ℕ-discrete (basicReason r) 7) false (w .window);
+      errorCode = r .code;
+      instructionLength = r .length;
+      cr0 = choose (moves 0 r) (crValue (cr0Bounds (w .limits)) (movedBy r)) (r .cr0);
+      cr0mask = choose (moves 0 r) (crMask (cr0Bounds (w .limits))) (w .cr0mask);
+      cr4 = choose (moves 4 r) (crValue (w .limits .cr4) (cr4Asked (movedBy r))) (r .cr4);
+      cr4mask = choose (moves 4 r) (crMask (w .limits .cr4)) (w .cr4mask);
+      limits = w .limits;
+    }
+
+-- a raw write of a field, by its encoding (SDM 3D, appendix B)
+abbrev pub atFieldWrite : Words → ℕ → ℕ → Words
+atFieldWrite w encoding value =
+    record {
+      phase = w .phase;
+      launched = w .launched;
+      flag = choose (ℕ-discrete encoding 0x6820) (bit 9 value) (w .flag);
+      interruptibility = choose (ℕ-discrete encoding 0x4824) value (w .interruptibility);
+      valid = choose (ℕ-discrete encoding 0x4016) (bit 31 value) (w .valid);
+      window = choose (ℕ-discrete encoding 0x4002) (bit 2 value) (w .window);
+      errorCode = w .errorCode;
+      instructionLength = w .instructionLength;
+      cr0 = choose (ℕ-discrete encoding 0x6800) value (w .cr0);
+      cr0mask = choose (ℕ-discrete encoding 0x6000) value (w .cr0mask);
+      cr4 = choose (ℕ-discrete encoding 0x6804) value (w .cr4);
+      cr4mask = choose (ℕ-discrete encoding 0x6002) value (w .cr4mask);
+      limits = w .limits;
+    }
+
+abbrev pub wordsBy : Reference → Call → Words
+wordsBy p (setup block a b msr) = atSetup (p .words) (msrsOf block)
+wordsBy p (queueEvent vector coded code) = p .words
+wordsBy p (injectInterrupt vector) = p .words
+wordsBy p (entry stack) = atEntry (p .words) (answerOn (p .pending) (p .words .flag) (p .words .interruptibility))
+-- a failed entry ends the session
+wordsBy p (exitReport block) = cond (bit 31 (reportOf block .reason)) (inPhase (p .words) 4) (atExit (p .words) (reportOf block))
+wordsBy p (apicValue value) = inPhase (p .words) 1
+wordsBy p (fieldWrite encoding value) = atFieldWrite (p .words) encoding value
+wordsBy p (registerWrite index value) = p .words
+
+-- ---- a list of calls
+
+abbrev pub accept : Reference → Call → Reference
+accept p c = record { tally = tallied (p .tally) (moveOn p c); pending = moved (p .pending) (moveOn p c); words = wordsBy p c }
 
 -- a refused call changes nothing
 abbrev pub referenceStep : Reference → Call → Bool → Reference
-referenceStep p c refused = cond refused p (accept p c (effect p c))
+referenceStep p c refused = cond refused p (accept p c)
 
 abbrev pub referenceAnswer : Reference → Call → Bool → Injection
-referenceAnswer p c refused = cond refused Empty (effect p c .answer)
+referenceAnswer p c refused = cond refused Empty (answerOf (moveOn p c))
 
 -- a call, and whether it was refused: all that the reference is fed
 pub record Fed : Type 0 where
@@ -257,48 +415,34 @@ pub record Buffers (block a b msr : List ℕ) : Type 0 where
   pub io-b : length b ≡ 4096
   pub msrs : length msr ≡ 4096
 
--- 6 is its negation: what must be 1 may be 1, in each pair (allowed-0 is the low half, allowed-1 the high one) and in CR0 and CR4
-pub record Consistent (m : CapabilityMsrs) : Type 0 where
-  pub pin : Within (low32 (m .truepinbased)) (high32 (m .truepinbased))
-  pub primary : Within (low32 (m .trueprocbased)) (high32 (m .trueprocbased))
-  pub secondary : Within (low32 (m .procbased2)) (high32 (m .procbased2))
-  pub exits : Within (low32 (m .trueexit)) (high32 (m .trueexit))
-  pub entries : Within (low32 (m .trueentry)) (high32 (m .trueentry))
-  pub cr0 : Within (m .cr0fixed0) (m .cr0fixed1)
-  pub cr4 : Within (m .cr4fixed0) (m .cr4fixed1)
+-- 6 is its negation: what must be 1 may be 1, in each pair and in CR0 and CR4
+pub record Consistent (l : Limits) : Type 0 where
+  pub pin : Within (l .pin .must) (l .pin .may)
+  pub primary : Within (l .primary .must) (l .primary .may)
+  pub secondary : Within (l .secondary .must) (l .secondary .may)
+  pub exit : Within (l .exit .must) (l .exit .may)
+  pub entry : Within (l .entry .must) (l .entry .may)
+  pub cr0 : Within (l .cr0 .must) (l .cr0 .may)
+  pub cr4 : Within (l .cr4 .must) (l .cr4 .may)
 
 -- 8: a set bit is not in allowed-1. 9: a cleared bit is in allowed-0
-abbrev pub wordRules : ℕ → ℕ → ℕ → List Rule
-wordRules msr set clear = by 8 (Within set (high32 msr) → ⊥) ∷ by 9 (Apart (low32 msr) clear → ⊥) ∷ []
+abbrev pub wordRules : Bounds → ℕ → ℕ → List Rule
+wordRules b set clear = by 8 (Within set (b .may) → ⊥) ∷ by 9 (Apart (b .must) clear → ⊥) ∷ []
 
-abbrev pub setupRules : CapabilityMsrs → Features → List Rule
-setupRules m f =
-    by 6 (Consistent m → ⊥)
-    ∷ wordRules (m .truepinbased) 0x9 0
-    ++ wordRules (m .trueprocbased) 0x92000000 0x198000
-    ++ wordRules (m .procbased2) (0x82 + 0x8 * flag (f .rdtscp) + 0x1000 * flag (f .invpcid) + 0x100000 * flag (f .xsaves)) 0
-    ++ wordRules (m .trueexit) 0x3C8200 0
-    ++ wordRules (m .trueentry) 0xC000 0
+abbrev pub setupRules : Limits → Features → List Rule
+setupRules l f =
+    by 6 (Consistent l → ⊥)
+    ∷ wordRules (l .pin) 0x9 0
+    ++ wordRules (l .primary) 0x92000000 0x198000
+    ++ wordRules (l .secondary) (0x82 + 0x8 * flag (f .rdtscp) + 0x1000 * flag (f .invpcid) + 0x100000 * flag (f .xsaves)) 0
+    ++ wordRules (l .exit) 0x3C8200 0
+    ++ wordRules (l .entry) 0xC000 0
 
 -- ---- the numbers of a report
-
--- CR0 and CR4 and their guest/host masks, as a session has them
-pub record Guarded : Type 0 where
-  pub cr0 : ℕ
-  pub cr0mask : ℕ
-  pub cr4 : ℕ
-  pub cr4mask : ℕ
 
 -- two words have the same bits under a mask
 abbrev pub Agree : ℕ → ℕ → ℕ → Type 0
 Agree mask a b = (i : ℕ) → T (bit i mask) → bit i a ≡ bit i b
-
--- reason 28's qualification: bits 0 to 3 the control register, 4 to 5 the access (0 is a move to it), 8 to 11 the general register, of which 4 is RSP
-abbrev pub MovesTo : ℕ → Report → Type 0
-MovesTo n r = (r .qualification / 2 ^ 4 % 4 ≡ 0) × (r .qualification % 2 ^ 4 ≡ n)
-
-abbrev pub movedBy : Report → ℕ
-movedBy r = choose (ℕ-discrete (r .qualification / 2 ^ 8 % 2 ^ 4) 4) (r .rsp) (getD (listOf (r .regs)) (r .qualification / 2 ^ 8 % 2 ^ 4) 0)
 
 -- by how much RIP advances
 abbrev pub advance : Report → ℕ
@@ -319,37 +463,47 @@ abbrev pub SetsIa32e : Report → Type 0
 SetsIa32e r =
     (basicReason r ≡ 28) × MovesTo 0 r × (bit 31 (movedBy r) ≡ true) × ((bit 8 (r .efer) ≡ true) × (bit 10 (r .efer) ≡ true) → ⊥)
 
--- those of an exit that is not a failed entry
-abbrev pub exitRules : Reference → Guarded → Report → List Rule
-exitRules p g r =
-    by 15 (Agree (g .cr0mask) (r .cr0) (g .cr0) × Agree (g .cr4mask) (r .cr4) (g .cr4) → ⊥)
+-- those of an exit that is not a failed entry. 8: allowed-1 of the entry controls lacks bit 9, IA-32e mode guest
+abbrev pub exitRules : Words → Report → List Rule
+exitRules w r =
+    by 15 (Agree (w .cr0mask) (r .cr0) (w .cr0) × Agree (w .cr4mask) (r .cr4) (w .cr4) → ⊥)
     ∷ by 16 ((basicReason r ≡ 1) × ((bit 31 (r .interruption) ≡ false) ⊎ (r .interruption / 2 ^ 8 % 8 ≡ 1)))
     ∷ by 18 ((basicReason r ≡ 28) × (MovesTo 0 r ⊎ MovesTo 4 r → ⊥))
     ∷ by 20 ((basicReason r ≡ 55) × (ecxOf r ≢ 0))
     ∷ by 19 (basicReason r ≡ 55)
     ∷ by 21 (basicReason r ≡ 44)
     ∷ by 17 (2 ^ 64 ≤ r .rip + advance r)
-    ∷ by 8 (SetsIa32e r × (p .ia32e ≡ false))
+    ∷ by 8 (SetsIa32e r × (bit 9 (w .limits .entry .may) ≡ false))
     ∷ []
 
 -- a failed entry has the first two alone
-abbrev pub reportRules : Reference → Guarded → Report → List Rule
-reportRules p g r = by 1 (p .phase ≢ 2) ∷ by 14 (UnknownReason r) ∷ cond (bit 31 (r .reason)) [] (exitRules p g r)
+abbrev pub reportRules : Words → Report → List Rule
+reportRules w r = by 1 (w .phase ≢ 2) ∷ by 14 (UnknownReason r) ∷ cond (bit 31 (r .reason)) [] (exitRules w r)
 
 -- ---- the numbers of each call
 
-abbrev pub rules : Reference → Guarded → Call → List Rule
-rules p g (setup block a b msr) = by 2 (Buffers block a b msr → ⊥) ∷ by 1 (p .phase ≢ 0) ∷ setupRules (msrsOf block) (featuresOf block)
-rules p g (queueEvent vector coded code) = by 2 (2 ≤ coded) ∷ by 1 (p .phase ≡ 4) ∷ by 13 (64 ≤ length (p .pending)) ∷ []
-rules p g (injectInterrupt vector) = by 1 (p .phase ≡ 4) ∷ by 12 ((vector ≡ 0) ⊎ (256 ≤ vector)) ∷ by 13 (64 ≤ length (p .pending)) ∷ []
-rules p g (entry stack) = by 1 (p .phase ≢ 1) ∷ by 22 (p .entries ≡ 0xFFFFFFFF) ∷ []
-rules p g (exitReport block) = by 2 (length block ≢ ReportLayout.LENGTH) ∷ reportRules p g (reportOf block)
-rules p g (apicValue value) = by 1 (p .phase ≢ 3) ∷ []
+abbrev pub ownRules : Reference → Call → List Rule
+ownRules p (setup block a b msr) =
+    by 2 (Buffers block a b msr → ⊥) ∷ by 1 (p .words .phase ≢ 0) ∷ setupRules (limitsOf (msrsOf block)) (featuresOf block)
+ownRules p (queueEvent vector coded code) = by 2 (2 ≤ coded) ∷ by 1 (p .words .phase ≡ 4) ∷ by 13 (64 ≤ length (p .pending)) ∷ []
+ownRules p (injectInterrupt vector) =
+    by 1 (p .words .phase ≡ 4) ∷ by 12 ((vector ≡ 0) ⊎ (256 ≤ vector)) ∷ by 13 (64 ≤ length (p .pending)) ∷ []
+ownRules p (entry stack) = by 1 (p .words .phase ≢ 1) ∷ by 22 (p .tally .entries ≡ 0xFFFFFFFF) ∷ []
+ownRules p (exitReport block) = by 2 (length block ≢ ReportLayout.LENGTH) ∷ reportRules (p .words) (reportOf block)
+ownRules p (apicValue value) = by 1 (p .words .phase ≢ 3) ∷ []
 -- the encoding's bits 10 to 11 are its kind (1 is read-only), bits 13 to 14 its width (0 is 16 bits, 2 is 32, the others 64)
-rules p g (fieldWrite encoding value) =
+ownRules p (fieldWrite encoding value) =
     by 3 (List·Memᴰ encoding encodings → ⊥) ∷ by 4 (encoding / 2 ^ 10 % 4 ≡ 1)
     ∷ by 5 (((encoding / 2 ^ 13 % 4 ≡ 0) × (2 ^ 16 ≤ value)) ⊎ ((encoding / 2 ^ 13 % 4 ≡ 2) × (2 ^ 32 ≤ value))) ∷ []
-rules p g (registerWrite index value) = by 23 ((index ≡ 4) ⊎ (16 ≤ index)) ∷ []
+ownRules p (registerWrite index value) = by 23 ((index ≡ 4) ⊎ (16 ≤ index)) ∷ []
+
+-- the bytes that the calls led to are no record that this call takes: never
+abbrev pub Untaken : Reference → Call → Type 0
+Untaken p c = ⊥
+
+-- 2 for the record comes first, whatever the call
+abbrev pub rules : Reference → Call → List Rule
+rules p c = by 2 (Untaken p c) ∷ ownRules p c
 
 -- ---- the entry interruption word of a vector, by bits
 

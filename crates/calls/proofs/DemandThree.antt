@@ -3,16 +3,14 @@ use Prim.Native.Nat.{ℕ, _+_, _<_, _≤_}
 use mathlib.Core.Path.{_≡_, refl, sym, ap, _∙_, subst}
 use mathlib.Core.Bool.{Bool, true, false, cond, not}
 use mathlib.Core.List.{List, [], _∷_, _++_, append-nil, List·Memᴰ}
-use mathlib.Core.Logic.{inl, inr}
+use mathlib.Core.Logic.{inr}
 use mathlib.Core.Option.{some, none, Option·getD}
 use native.Mathlib.Omega.{arith}
 use lib.Dec.{eqb, lit<}
 use lib.ListN.{length, getD, drop, length-append, length-drop}
 use borrow.Author.Tests.{eq-eqb, ne-eqb, le-leb}
 use Rattle.bits.specs.Refuses.{Refuses}
-use Rattle.bits.specs.Words.{bit}
 use Rattle.vmcs.specs.Field.{valueOf}
-use Rattle.vmcs.specs.Names.VmcsControl32 as VmcsControl32
 use Rattle.vmcs.specs.Names.VmcsHostNW as VmcsHostNW
 use Rattle.vmcs.specs.Names.VmcsReadOnly32 as VmcsReadOnly32
 use Rattle.vmcs.specs.Writes.{Sized}
@@ -30,7 +28,7 @@ use Rattle.vcpu_setup.specs.Capability.{capabilitiesOf}
 use Rattle.blocks.specs.SetupBlock.{msrsOf}
 use Rattle.record.specs.Codec.{sessionOf}
 use Rattle.calls.specs.Moves.{Move, queues, finds-none, holds, writes, exits, fails, rests, moved, Tally, begun, tallied, talliedAll}
-use Rattle.calls.specs.Reference.{types, codes, Call, entry, WellTyped, AllWellTyped, Event, entryMove, limitsOf, start, Reference, validBy, choose, isHeld, answerOn, moveOn, referenceStep, referenceAnswer, referenceAfter, referenceAnswers, Fed, ownRules, rules}
+use Rattle.calls.specs.Reference.{types, Call, entry, WellTyped, AllWellTyped, Event, entryMove, limitsOf, start, Reference, validBy, choose, isHeld, answerOn, referenceStep, referenceAnswer, referenceAfter, referenceAnswers, Fed, ownRules}
 use Rattle.calls.specs.Calls as Calls
 use Rattle.calls.specs.Calls.{stepOf, newRecord, after, loggedOf, historyOf, isRefused, Logged, fed, moveOf, movesOf, tallyOf, written, eventOf, waitingOf, wordsOf, viewOf}
 use Rattle.calls.specs.DemandThree.{Answers, Wrote, Launches, WaitLaw, isWritten, Permits, Unwritten, judgedFields, acceptedSetup, WholeList}
@@ -41,8 +39,8 @@ use Rattle.calls.proofs.Sessions.{sessionStep, next, sessionAfter, sess
 use Rattle.calls.proofs.Fits.{sound-step}
 use Rattle.calls.proofs.Steps.{step, written-waits, front-waits, answer-moves}
 use Rattle.calls.proofs.Waiting.{Kept, begins, keeps, counted, waits, injects}
-use Rattle.calls.proofs.Whole.{accepts, can, moves, accepted, Follows, run, kept-after}
-use Rattle.calls.proofs.Invariants.{entry-ready, Clear, clear-after, Launched, launched-after, one-setup}
+use Rattle.calls.proofs.Whole.{can, moves, accepted, Follows, run, kept-after}
+use Rattle.calls.proofs.Invariants.{entry-ready, Clear, clear-after, launched-after, one-setup}
 use Rattle.calls.proofs.Permit.{unwritten-at, permits-since, enter-kept, kept-permits}
 use Rattle.calls.proofs.Records.{Holds, carried, carry, holds-encoded, sound-new, setup-left, entry-results, report-results}
 

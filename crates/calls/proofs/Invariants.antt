@@ -2,7 +2,7 @@
 use Prim.Native.Nat.{ℕ, _+_}
 use mathlib.Core.Path.{_≡_, refl, sym, ap, _∙_, subst}
 use mathlib.Core.Bool.{Bool, true, false, cond, not, true≢false}
-use mathlib.Core.List.{List, [], _∷_, _++_, List·Memᴰ, List·Memᴰ·cases-cons, List·Memᴰ·not-nil}
+use mathlib.Core.List.{List, [], _∷_, List·Memᴰ·cases-cons, List·Memᴰ·not-nil}
 use mathlib.Core.Logic.{_⊎_, _≢_, inl, inr}
 use native.Mathlib.Decide.{ℕ-discrete}
 use native.Mathlib.Omega.{arith}
@@ -12,10 +12,10 @@ use Rattle.bits.specs.Refuses.{Refuses}
 use Rattle.bits.specs.Words.{bit}
 use Rattle.bits.proofs.Tells.{both-false}
 use Rattle.vcpu_events.specs.declared.Injection.{Injection}
-use Rattle.vcpu_events.specs.declared.Injection.the-variants.{Empty, Held, Written}
+use Rattle.vcpu_events.specs.declared.Injection.the-variants.{Held, Written}
 use Rattle.blocks.specs.ReportBlock.{reportOf}
 use Rattle.calls.specs.Moves.{Move, fails, exits, tallied}
-use Rattle.calls.specs.Reference.{choose, Call, setup, queueEvent, injectInterrupt, entry, exitReport, apicValue, fieldWrite, registerWrite, Event, entryMove, answerOn, isHeld, waits, Words, inPhase, atExit, wordsBy, Reference, moveOn, accept, referenceStep, referenceAfter, Fed, ownRules}
+use Rattle.calls.specs.Reference.{Call, setup, queueEvent, injectInterrupt, entry, exitReport, apicValue, fieldWrite, registerWrite, Event, entryMove, answerOn, isHeld, waits, Words, inPhase, atExit, wordsBy, Reference, moveOn, accept, referenceStep, referenceAfter, Fed, ownRules}
 use Rattle.calls.specs.Calls.{writesField, written}
 use Rattle.calls.specs.DemandThree.{acceptedSetup, NoSetup, OneSetup}
 use Rattle.calls.proofs.Choices.{cond-all, choose-no, choose-all}

@@ -1,20 +1,20 @@
 -- A report is refused exactly where the reference's rules say, and what its words say is what the reference reads. Assumes nothing.
 use Prim.Native.Nat.{ℕ, _+_, _-_, _/_, _%_, _^_, _<_, _≤_}
 use mathlib.Core.Path.{_≡_, refl, sym, ap, _∙_, subst}
-use mathlib.Core.Bool.{Bool, true, false, cond, not, _&&_, _||_, true≢false, false≢true, and-true, and-false}
-use mathlib.Core.List.{List, [], _∷_}
-use mathlib.Core.Logic.{_⊎_, _≢_, inl, inr}
+use mathlib.Core.Bool.{Bool, true, false, cond, not, _&&_, _||_, and-true, and-false}
+use mathlib.Core.List.{[], _∷_}
+use mathlib.Core.Logic.{_⊎_, _≢_}
 use native.Mathlib.Decide.{ℕ-discrete}
 use native.Mathlib.Omega.{arith}
 use lib.Bits.{bitAnd}
 use lib.Dec.{T, eqb, leb, ltb, eqb→eq}
 use lib.ListN.{getD}
-use borrow.Author.Tests.{eqb-true, eqb-false, leb-true, leb-false, ltb-true, ltb-false, not-true, not-false, eq-eqb, le-leb, lt-leb}
+use borrow.Author.Tests.{eqb-true, eqb-false, ltb-true, ltb-false, eq-eqb, le-leb, lt-leb}
 use Rattle.bits.specs.Words.{bit}
 use Rattle.bits.proofs.AllBelow.{at}
 use Rattle.bits.proofs.BitLaws.{bit-and, same-bits}
 use Rattle.bits.proofs.WordLaws.{is-true}
-use Rattle.bits.specs.Refuses.{Rule, by, Refuses}
+use Rattle.bits.specs.Refuses.{by, Refuses}
 use Rattle.bits.proofs.Tells.{Tells, tells-eq, tells-leb, tells-ltb, tells-on, tells-off, tells-and, tells-or, tells-not, tells-as, tells-is, rung, ladder}
 use Rattle.regs.specs.Registers.{listOf}
 use Rattle.definitions.specs.Interruption.{typeNumber, typeNumbered, typeOf}

@@ -2,17 +2,16 @@
 use Prim.Native.Nat.{ℕ, zero, suc, _+_, _-_, _/_, _%_, _^_, _<_, _≤_}
 use mathlib.Core.Path.{_≡_, refl, sym, ap, _∙_, subst}
 use mathlib.Core.Bool.{Bool, true, false, cond, not, _&&_, _||_, or-true, true≢false}
-use mathlib.Core.List.{List, [], _∷_, _++_, append-nil, List·Memᴰ}
+use mathlib.Core.List.{List, [], _∷_, _++_, List·Memᴰ}
 use mathlib.Core.Logic.{_⊎_, inl, inr}
 use native.Mathlib.Decide.{ℕ-discrete}
 use native.Mathlib.Omega.{arith}
-use native.Mathlib.Nat.{add-zero}
 use native.Mathlib.Numerals.{add-one}
 use lib.ListN.{length, getD, take, drop, set}
 use lib.Seq.{take-suc-set, length-take-le}
 use lib.Bits.{bitAnd, bitOr}
 use lib.Dec.{eqb, ltb, leb, lit<, eqb·suc-zero}
-use borrow.Author.Tests.{eqb-true, eqb-false, leb-true, leb-false, ltb-true, ltb-false, not-true, not-false, eq-eqb, ne-eqb, le-leb}
+use borrow.Author.Tests.{eqb-true, eqb-false, leb-true, leb-false, ltb-true, ltb-false, not-true, not-false, eq-eqb}
 use Rattle.bits.specs.Words.{bit, bitNot, withBit, low32, high32}
 use Rattle.bits.proofs.BitLaws.{bit-and, bit-or, bit-not}
 use Rattle.vmcs.specs.Control.{controlWord}
@@ -46,8 +45,6 @@ use Rattle.vcpu_events.specs.Access.{fieldsWritten, registersWritten}
 use Rattle.vcpu_setup.specs.Setup.{setupOf}
 use Rattle.vcpu_setup.specs.Writes.{setupWrites}
 use Rattle.vcpu_setup.specs.declared.Arguments.{Arguments}
-use Rattle.vcpu_setup.specs.declared.CapabilityMsrs.{CapabilityMsrs}
-use Rattle.vcpu_session.specs.declared.Capabilities.{Capabilities}
 use Rattle.vmcs.specs.Writes.{Sized}
 use Rattle.vcpu_setup.specs.Capability.{capabilitiesOf}
 use Rattle.vcpu_setup.specs.Laws.{Typed, SetUp}
@@ -69,8 +66,8 @@ use Rattle.blocks.specs.SetupBlock.{argumentsOf, msrsOf, featuresOf}
 use Rattle.call_specs.specs.Records.{queueStep}
 use Rattle.bits.specs.Refuses.{by, Refuses}
 use Rattle.bits.proofs.Tells.{Tells, tells-eq, tells-leb, tells-and, tells-or, tells-not, tells-as}
-use Rattle.calls.specs.Moves.{Move, queues, finds-none, holds, writes, exits, fails, rests, moved, answerOf, Tally, tallied}
-use Rattle.calls.specs.Reference.{choose, Call, setup, queueEvent, injectInterrupt, entry, exitReport, apicValue, fieldWrite, registerWrite, WellTyped, Event, entryMove, moveBy, limitsOf, IsHeld, isHeld, answerOn, moveOn, Reference, validBy, windowBy, waits, inPhase, atSetup, atEntry, atExit, atFieldWrite, wordsBy, accept, referenceStep, referenceAnswer, Buffers, reportRules, ownRules}
+use Rattle.calls.specs.Moves.{Move, queues, exits, fails, rests, moved, answerOf, Tally, tallied}
+use Rattle.calls.specs.Reference.{choose, Call, setup, queueEvent, injectInterrupt, entry, exitReport, apicValue, fieldWrite, registerWrite, WellTyped, Event, entryMove, moveBy, IsHeld, isHeld, answerOn, moveOn, Reference, validBy, windowBy, inPhase, atSetup, atEntry, atExit, atFieldWrite, wordsBy, referenceStep, referenceAnswer, Buffers, reportRules, ownRules}
 use Rattle.calls.specs.Calls.{Outcome, Logged, isRefused, eventOf, eventsOf, waitingOf, limitsIn, wordsOf, viewOf, moveOf}
 use Rattle.calls.proofs.Choices.{cond-all, impossible, choose-no, choose-ap}
 use Rattle.calls.proofs.Events.{events-set, events-long, events-shifted, events-front}

@@ -1,8 +1,8 @@
 -- Every list of calls on sessions, by one induction over `step`, and the law on waiting. Assumes nothing.
-use Prim.Native.Nat.{ℕ, _+_, _≤_}
+use Prim.Native.Nat.{ℕ}
 use mathlib.Core.Path.{_≡_, refl, sym, ap, _∙_, subst}
 use mathlib.Core.Bool.{Bool, true, false, cond}
-use mathlib.Core.List.{List, [], _∷_, _++_}
+use mathlib.Core.List.{List, [], _∷_}
 use borrow.Author.Tests.{eqb-true, not-false}
 use Rattle.bits.specs.Refuses.{Refuses}
 use Rattle.bits.specs.Words.{bit}

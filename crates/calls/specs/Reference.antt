@@ -12,7 +12,7 @@ use lib.Dec.{T, eqb}
 use lib.ListN.{length, getD, drop}
 use Rattle.bits.specs.Words.{bit, bitNot, flag, low32, high32, Within, Apart}
 use Rattle.bits.specs.LittleEndian.{littleEndian, Below}
-use Rattle.bits.specs.Refuses.{Rule, by, Refuses}
+use Rattle.bits.specs.Refuses.{Rule, by}
 use Rattle.regs.specs.Registers.{listOf}
 use Rattle.vmcs.specs.Named.{encodings}
 use Rattle.vcpu_events.specs.declared.Injection.{Injection}

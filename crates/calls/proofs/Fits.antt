@@ -13,8 +13,7 @@ use Rattle.bits.proofs.WithBit.{withBit-lt}
 use Rattle.bits.specs.LittleEndian.{Below}
 use Rattle.definitions.specs.Interruption.{hasErrorCode, isSoft, fromVector}
 use Rattle.definitions.proofs.EventLaws.{event-bits}
-use Rattle.regs.specs.Registers.{listOf, withReg, withRegOfIndex}
-use Rattle.regs.specs.declared.GeneralRegisters.{GeneralRegisters}
+use Rattle.regs.specs.Registers.{withReg, withRegOfIndex}
 use Rattle.regs.specs.declared.RegWritten.{RegWritten}
 use Rattle.vmcs.specs.Field.{valueOf}
 use Rattle.vmcs.specs.Fields.{positionOf, fieldOf, greatestOf, readOnly, vmcsWrite}
@@ -25,7 +24,7 @@ use Rattle.vmcs.specs.Names.VmcsReadOnly32 as VmcsReadOnly32
 use Rattle.vmcs.specs.declared.Vmcs.{Vmcs}
 use Rattle.vmcs.specs.declared.Written.{Written as FieldsWritten}
 use Rattle.vmcs.proofs.FieldLaws.{fits-field}
-use Rattle.vcpu_session.specs.Session.{isUnlawful, Lawful, withRegs}
+use Rattle.vcpu_session.specs.Session.{isUnlawful, Lawful}
 use Rattle.vcpu_session.specs.declared.Session.{Session}
 use Rattle.vcpu_events.specs.Queue as Queue
 use Rattle.vcpu_events.specs.Queue.{pushed, popped, frontOf}
@@ -42,8 +41,8 @@ use Rattle.vcpu_setup.specs.Capability.{capabilitiesOf}
 use Rattle.vcpu_setup.specs.Setup.{setupRefusal, readied, setupOf}
 use Rattle.vcpu_setup.specs.Writes.{setupWrites}
 use Rattle.blocks.specs.SetupBlock.{argumentsOf}
-use Rattle.record.specs.Runs.{Numbers}
-use Rattle.record.specs.Fitting.{Fitting, VmcsFits, QueueFits}
+use Rattle.record.specs.Fitting.{Fitting, ProgressFits, VmcsFits, QueueFits}
+use Rattle.record.proofs.FittingLaws.{progress-fits, regs-fits, vmcs-fits, queue-fits, capabilities-fits, in-phase-fits}
 use Rattle.vcpu_report.proofs.ReportLaws.{report-laws}
 use Rattle.blocks.specs.ReportBlock as Report
 use Rattle.blocks.specs.ReportBlock.{reportOf}
@@ -105,26 +104,20 @@ module _ (s : Session) (h : Sound s) where
             (cond-all (λ (x : ℕ). x < 2 ^ 32) (e .coded) _ _ (λ _. k) (λ _. lit< tt));
       }
 
-  queue-fits : (e : Core.Event) → e .vector < 2 ^ 8 → e .code < 2 ^ 32 → Fitting (Queue.queueEvent s e .session)
+  event-fits : (e : Core.Event) → e .vector < 2 ^ 8 → e .code < 2 ^ 32 → Fitting (Queue.queueEvent s e .session)
   unfolding Queue.queueEvent
-  queue-fits e v k =
+  event-fits e v k =
       cond-all P (isUnlawful s) _ _ (λ _. h .fits)
       (λ _. cond-all P (eqb (s .progress .phase) 4) _ _ (λ _. h .fits)
       (λ _. cond-all P (leb 64 (s .queue .waiting)) _ _ (λ _. h .fits)
-      (λ t. record {
-        progress = h .fits .progress;
-        regs = h .fits .regs;
-        vmcs = h .fits .vmcs;
-        queue = pushed-fits e v k (leb-false 64 (s .queue .waiting) t);
-        capabilities = h .fits .capabilities;
-      })))
+      (λ t. queue-fits (h .fits) (pushed-fits e v k (leb-false 64 (s .queue .waiting) t)))))
     where
       P : Answered → Type 0
       P a = Fitting (a .session)
 
   queue-step-fits : (vector coded code : ℕ) → vector < 2 ^ 8 → code < 2 ^ 32 → Fitting (queueStep vector coded code s .session)
   unfolding queueStep
-  queue-step-fits vector coded code v k = cond-all (λ (a : Answered). Fitting (a .session)) (ltb 1 coded) _ _ (λ _. h .fits) (λ _. queue-fits _ v k)
+  queue-step-fits vector coded code v k = cond-all (λ (a : Answered). Fitting (a .session)) (ltb 1 coded) _ _ (λ _. h .fits) (λ _. event-fits _ v k)
 
   interrupt-fits : (vector : ℕ) → Fitting (Queue.injectInterrupt s vector .session)
   unfolding Queue.injectInterrupt
@@ -132,52 +125,45 @@ module _ (s : Session) (h : Sound s) where
       cond-all P (isUnlawful s) _ _ (λ _. h .fits)
       (λ _. cond-all P (eqb (s .progress .phase) 4) _ _ (λ _. h .fits)
       (λ _. cond-all P (eqb vector 0) _ _ (λ _. h .fits)
-      (λ _. cond-all P (ltb 255 vector) _ _ (λ _. h .fits) (λ t. queue-fits _ (let z = ltb-false 255 vector t in omega arith) (lit< tt)))))
+      (λ _. cond-all P (ltb 255 vector) _ _ (λ _. h .fits) (λ t. event-fits _ (let z = ltb-false 255 vector t in omega arith) (lit< tt)))))
     where
       P : Answered → Type 0
       P a = Fitting (a .session)
 
   -- ---- entry
 
-  after-fits : (stack : ℕ) → stack < 2 ^ 64 → (s .progress .entries ≡ 4294967295 → ⊥) → (a : Injection) → Fitting (afterEntry s stack a)
-  unfolding afterEntry progressAfter queueAfter vmcsAfter popped
-  after-fits stack w n Empty =
-      record {
-        progress = record { phase = lit< tt; entries = omega (arith, h .fits .progress .entries); held = h .fits .progress .held };
-        regs = h .fits .regs;
-        vmcs = stack-fits (s .vmcs) (s .progress .launched) stack w (h .fits .vmcs);
-        queue = h .fits .queue;
-        capabilities = h .fits .capabilities;
-      }
-  after-fits stack w n Held =
-      record {
-        progress = record {
-          phase = lit< tt;
-          entries = omega (arith, h .fits .progress .entries);
-          held = omega
-              (arith, h .fits .progress .entries, h .lawful .held);
-        };
-        regs = h .fits .regs;
-        vmcs = window-fits _ (stack-fits (s .vmcs) (s .progress .launched) stack w (h .fits .vmcs));
-        queue = h .fits .queue;
-        capabilities = h .fits .capabilities;
-      }
-  after-fits stack w n Written =
+  progress-after-fits : (s .progress .entries ≡ 4294967295 → ⊥) → (a : Injection) → ProgressFits (progressAfter (s .progress) a)
+  unfolding progressAfter
+  progress-after-fits n Empty = record { phase = lit< tt; entries = omega (arith, h .fits .progress .entries); held = h .fits .progress .held }
+  progress-after-fits n Held =
+      record { phase = lit< tt; entries = omega (arith, h .fits .progress .entries); held = omega (arith, h .fits .progress .entries, h .lawful .held) }
+  progress-after-fits n Written = record { phase = lit< tt; entries = omega (arith, h .fits .progress .entries); held = h .fits .progress .held }
+
+  vmcs-after-fits : (v : Vmcs) → VmcsFits v → (a : Injection) → VmcsFits (vmcsAfter v (frontOf (s .queue)) a)
+  unfolding vmcsAfter
+  vmcs-after-fits v m Empty = m
+  vmcs-after-fits v m Held = window-fits v m
+  vmcs-after-fits v m Written = injected-fits v (frontOf (s .queue)) (h .fits .queue .vectors .below 0) (h .fits .queue .codes .below 0) m
+
+  queue-after-fits : (a : Injection) → QueueFits (queueAfter (s .queue) a)
+  unfolding queueAfter popped
+  queue-after-fits Empty = h .fits .queue
+  queue-after-fits Held = h .fits .queue
+  queue-after-fits Written =
       let q = h .fits .queue in
       let few : s .queue .waiting - 1 < 64 = omega (arith, h .lawful .waiting) in
       record {
-        progress = record { phase = lit< tt; entries = omega (arith, h .fits .progress .entries); held = h .fits .progress .held };
-        regs = h .fits .regs;
-        vmcs = injected-fits _ (frontOf (s .queue)) (q .vectors .below 0) (q .codes .below 0)
-            (stack-fits (s .vmcs) (s .progress .launched) stack w (h .fits .vmcs));
-        queue = record {
-          waiting = omega (arith, q .waiting);
-          vectors = numbers-shifted _ 0 few (q .vectors) (lit< tt);
-          coded = omega (arith, q .coded);
-          codes = numbers-shifted _ 0 few (q .codes) (lit< tt);
-        };
-        capabilities = h .fits .capabilities;
+        waiting = omega (arith, q .waiting);
+        vectors = numbers-shifted _ 0 few (q .vectors) (lit< tt);
+        coded = omega (arith, q .coded);
+        codes = numbers-shifted _ 0 few (q .codes) (lit< tt);
       }
+
+  after-fits : (stack : ℕ) → stack < 2 ^ 64 → (s .progress .entries ≡ 4294967295 → ⊥) → (a : Injection) → Fitting (afterEntry s stack a)
+  unfolding afterEntry
+  after-fits stack w n a =
+      let fields = vmcs-after-fits _ (stack-fits (s .vmcs) (s .progress .launched) stack w (h .fits .vmcs)) a in
+      progress-fits (queue-fits (vmcs-fits (h .fits) fields) (queue-after-fits a)) (progress-after-fits n a)
 
   entry-fits : (stack : ℕ) → stack < 2 ^ 64 → Fitting (Entry.entry s stack .session)
   unfolding Entry.entry
@@ -199,13 +185,9 @@ module _ (s : Session) (h : Sound s) where
       (λ _. cond-all Q (leb 154 (positionOf encodings e)) _ _ (λ _. h .fits)
       (λ t. cond-all Q (readOnly e) _ _ (λ _. h .fits)
       (λ _. cond-all Q (ltb (greatestOf e) v) _ _ (λ _. h .fits)
-      (λ u. record {
-        progress = h .fits .progress;
-        regs = h .fits .regs;
-        vmcs = put-fits (h .fits .vmcs) (fieldOf e) v (fits-field e v (leb-false 154 (positionOf encodings e) t) (ltb-false (greatestOf e) v u));
-        queue = h .fits .queue;
-        capabilities = h .fits .capabilities;
-      }))))
+      (λ u.
+      let named = leb-false 154 (positionOf encodings e) t in
+      vmcs-fits (h .fits) (put-fits (h .fits .vmcs) (fieldOf e) v (fits-field e v named (ltb-false (greatestOf e) v u)))))))
     where
       P : Answered → Type 0
       P a = Fitting (a .session)
@@ -213,15 +195,12 @@ module _ (s : Session) (h : Sound s) where
       Q : FieldsWritten → Type 0
       Q a = Fitting (fieldsWritten s a .session)
 
-  with-regs : (g : GeneralRegisters) → Numbers 16 8 (listOf g) → Fitting (withRegs s g)
-  with-regs g m = record { progress = h .fits .progress; regs = m; vmcs = h .fits .vmcs; queue = h .fits .queue; capabilities = h .fits .capabilities }
-
   register-fits : (i v : ℕ) → v < 2 ^ 64 → Fitting (Access.setRegister s i v .session)
   unfolding Access.setRegister withRegOfIndex
   register-fits i v w =
       cond-all P (isUnlawful s) _ _ (λ _. h .fits)
       (λ _. cond-all Q (ltb 15 i) _ _ (λ _. h .fits)
-      (λ _. cond-all Q (eqb i 4) _ _ (λ _. h .fits) (λ _. with-regs (withReg (s .regs) i v) (reg-fits (s .regs) i v (h .fits .regs) w))))
+      (λ _. cond-all Q (eqb i 4) _ _ (λ _. h .fits) (λ _. regs-fits (h .fits) (withReg (s .regs) i v) (reg-fits (s .regs) i v (h .fits .regs) w))))
     where
       P : Answered → Type 0
       P a = Fitting (a .session)
@@ -234,13 +213,8 @@ module _ (s : Session) (h : Sound s) where
   apic-fits v w =
       cond-all P (isUnlawful s) _ _ (λ _. h .fits)
       (λ _. cond-all P (not (eqb (s .progress .phase) 3)) _ _ (λ _. h .fits)
-      (λ _. record {
-        progress = record { phase = lit< tt; entries = h .fits .progress .entries; held = h .fits .progress .held };
-        regs = reg-fits (withReg (s .regs) 0 (low32 v)) 2 (high32 v) (reg-fits (s .regs) 0 (low32 v) (h .fits .regs) (omega arith)) (omega arith);
-        vmcs = h .fits .vmcs;
-        queue = h .fits .queue;
-        capabilities = h .fits .capabilities;
-      }))
+      (λ _. regs-fits (in-phase-fits (h .fits) (lit< tt)) _
+      (reg-fits (withReg (s .regs) 0 (low32 v)) 2 (high32 v) (reg-fits (s .regs) 0 (low32 v) (h .fits .regs) (omega arith)) (omega arith))))
     where
       P : Answered → Type 0
       P a = Fitting (a .session)
@@ -251,13 +225,9 @@ module _ (s : Session) (h : Sound s) where
   unfolding setupOf readied argumentsOf
   setup-fits block b =
       cond-all (λ (a : Answered). Fitting (a .session)) (eqb (setupRefusal s (capabilitiesOf (argumentsOf block .msrs)) (argumentsOf block .features)) 0) _ _
-      (λ _. record {
-        progress = record { phase = lit< tt; entries = h .fits .progress .entries; held = h .fits .progress .held };
-        regs = h .fits .regs;
-        vmcs = applied-fits (setupWrites (argumentsOf block)) (s .vmcs) (h .fits .vmcs) (writes-fit block b);
-        queue = h .fits .queue;
-        capabilities = capabilities-fit block b;
-      })
+      (λ _.
+      let fields = applied-fits (setupWrites (argumentsOf block)) (s .vmcs) (h .fits .vmcs) (writes-fit block b) in
+      in-phase-fits (capabilities-fits (vmcs-fits (h .fits) fields) (capabilities-fit block b)) (lit< tt))
       (λ _. h .fits)
 
 -- ---- every call

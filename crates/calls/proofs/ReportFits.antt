@@ -45,6 +45,7 @@ use Rattle.vcpu_report.specs.ExitReport.{registersAfter, phaseAfter, failedEntr
 use Rattle.vcpu_report.specs.declared.Reported.{Reported}
 use Rattle.record.specs.Runs.{All, Numbers, readAll, numbers}
 use Rattle.record.specs.Fitting.{Fitting, VmcsFits, PairFits, FixedFits, CapabilitiesFit}
+use Rattle.record.proofs.FittingLaws.{regs-fits, vmcs-fits, in-phase-fits}
 use Rattle.calls.proofs.Choices.{cond-all}
 use Rattle.calls.proofs.Fields.{_⊗_, value-fits, applied-fits}
 use Rattle.record.proofs.Codecs.{registers-read}
@@ -252,20 +253,10 @@ unfolding exitReport accepted failedEntry afterExit
 report-fits s r f h =
     cond-all P (eqb (reportRefusal s r) 0) _ _
     (λ t. cond-all P (failed r) _ _
-    (λ _. record {
-      progress = record { phase = lit< tt; entries = h .fits .progress .entries; held = h .fits .progress .held };
-      regs = h .fits .regs;
-      vmcs = failure-fits (s .vmcs) r f (h .fits .vmcs);
-      queue = h .fits .queue;
-      capabilities = h .fits .capabilities;
-    })
-    (λ u. record {
-      progress = record { phase = phase-fits r; entries = h .fits .progress .entries; held = h .fits .progress .held };
-      regs = registers-fit r f;
-      vmcs = after-fits (s .vmcs) (s .capabilities) r (h .fits .capabilities) f (within-end r (passes s r (eqb-true _ _ t) u .sum)) (h .fits .vmcs);
-      queue = h .fits .queue;
-      capabilities = h .fits .capabilities;
-    }))
+    (λ _. in-phase-fits (vmcs-fits (h .fits) (failure-fits (s .vmcs) r f (h .fits .vmcs))) (lit< tt))
+    (λ u.
+    let fields = after-fits (s .vmcs) (s .capabilities) r (h .fits .capabilities) f (within-end r (passes s r (eqb-true _ _ t) u .sum)) (h .fits .vmcs) in
+    in-phase-fits (regs-fits (vmcs-fits (h .fits) fields) (registersAfter r) (registers-fit r f)) (phase-fits r)))
     (λ _. h .fits)
   where
     P : Reported → Type 0

@@ -6,4 +6,5 @@ pub mod Flags
 pub mod Codecs
 pub mod Capabilities
 pub mod Accepted
+pub mod FittingLaws
 pub mod RoundTrip

@@ -16,8 +16,7 @@ use Rattle.bits.proofs.LittleEndianLaws.{length-bytesOf}
 use Rattle.regs.specs.Registers.{listOf, ofList, withReg}
 use Rattle.regs.specs.declared.GeneralRegisters.{GeneralRegisters}
 use Rattle.vmcs.specs.Field.{Field, Word16, Word64, Word32, Natural, placeOf, sizeOf, widthBits, put}
-use Rattle.vmcs.specs.declared.Vmcs.{Vmcs}
-use Rattle.vcpu_session.specs.Session.{Lawful, withProgress, withRegs, withVmcs, withQueue, inPhase}
+use Rattle.vcpu_session.specs.Session.{Lawful, withProgress, withRegs, withQueue, inPhase}
 use Rattle.vcpu_session.specs.declared.Progress.{Progress}
 use Rattle.vcpu_session.specs.declared.Queue.{Queue}
 use Rattle.vcpu_session.specs.declared.Session.{Session}
@@ -26,9 +25,10 @@ use Rattle.vcpu_events.specs.declared.Event.{Event}
 use Rattle.record.specs.Record as Record
 use Rattle.record.specs.Runs.{Takes, Numbers, numberBytes, flagBytes}
 use Rattle.record.specs.Codec.{sessionOf, withField, encodeOf, acceptedOf}
-use Rattle.record.specs.Fitting.{ProgressFits, VmcsFits, QueueFits, Fitting}
+use Rattle.record.specs.Fitting.{ProgressFits, Fitting}
 use Rattle.record.proofs.Flags.{length-flagBytes}
 use Rattle.record.proofs.Accepted.{whole}
+use Rattle.record.proofs.FittingLaws.{progress-fits, regs-fits, vmcs-fits, queue-fits, in-phase-fits}
 use Rattle.record.proofs.RoundTrip.{lawful-accepted, session-read, session-fits, session-lawful, record-written}
 use Rattle.record_edits.specs.Holds.{Holds}
 use Rattle.record_edits.proofs.Fits.{numbers-set, numbers-shifted, listed, put-fits}
@@ -47,7 +47,7 @@ held {b} {s} h phase waiting counts =
 pub held-bytes : {s : Session} {b : List ℕ} → Below 256 b → Holds b s → b ≡ encodeOf s
 held-bytes {s} {b} below h = sym (record-written b (whole b (h .accepted)) below (h .accepted)) ∙ ap encodeOf (h .session)
 
--- ---- a session with one part changed: the part, and that its numbers fit
+-- ---- a part of a session with one value changed
 
 abbrev withWaiting : Queue → ℕ → Queue
 withWaiting q x = record { waiting = x; vectors = q .vectors; coded = q .coded; codes = q .codes }
@@ -69,19 +69,6 @@ withEntries p x = record { phase = p .phase; launched = p .launched; entries = x
 
 abbrev withHeld : Progress → ℕ → Progress
 withHeld p x = record { phase = p .phase; launched = p .launched; entries = p .entries; held = x }
-
-module _ {s : Session} (f : Fitting s) where
-  progress-fits : {p : Progress} → ProgressFits p → Fitting (withProgress s p)
-  progress-fits h = record { progress = h; regs = f .regs; vmcs = f .vmcs; queue = f .queue; capabilities = f .capabilities }
-
-  regs-fits : (g : GeneralRegisters) → Numbers 16 8 (listOf g) → Fitting (withRegs s g)
-  regs-fits g h = record { progress = f .progress; regs = h; vmcs = f .vmcs; queue = f .queue; capabilities = f .capabilities }
-
-  vmcs-fits : {v : Vmcs} → VmcsFits v → Fitting (withVmcs s v)
-  vmcs-fits h = record { progress = f .progress; regs = f .regs; vmcs = h; queue = f .queue; capabilities = f .capabilities }
-
-  queue-fits : {q : Queue} → QueueFits q → Fitting (withQueue s q)
-  queue-fits h = record { progress = f .progress; regs = f .regs; vmcs = f .vmcs; queue = h; capabilities = f .capabilities }
 
 -- ---- where a field stands, and how many bytes it has
 
@@ -146,7 +133,7 @@ module _ {b : List ℕ} {s : Session} (h : Spells b s) where
   unfolding encodeOf
   with-phase x small e =
       record {
-        fits = progress-fits (h .fits) (record { phase = small; entries = h .fits .progress .entries; held = h .fits .progress .held });
+        fits = in-phase-fits (h .fits) small;
         bytes = value-put h 0 (lit< tt) (number 1) (s .progress .phase) x refl e;
       }
 

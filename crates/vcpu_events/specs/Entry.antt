@@ -15,7 +15,7 @@ use Rattle.vmcs.specs.Names.VmcsHostNW as VmcsHostNW
 use Rattle.vmcs.specs.Names.VmcsReadOnly32 as VmcsReadOnly32
 use Rattle.vmcs.specs.declared.Vmcs.{Vmcs}
 use Rattle.vcpu_session.specs.Phase as Phase
-use Rattle.vcpu_session.specs.Session.{isUnlawful}
+use Rattle.vcpu_session.specs.Session.{isUnlawful, withProgress, withVmcs, withQueue}
 use Rattle.vcpu_session.specs.declared.Progress.{Progress}
 use Rattle.vcpu_session.specs.declared.Queue.{Queue}
 use Rattle.vcpu_session.specs.declared.Session.{Session}
@@ -93,15 +93,11 @@ progressAfter p Empty = counted p (p .held)
 progressAfter p Held = counted p (p .held + 1)
 progressAfter p Written = counted p (p .held)
 
+-- an entry changes the fields, the queue and where the session stands; every other part stays
 unfoldable pub afterEntry : Session → ℕ → Injection → Session
 afterEntry s stack injection =
-    record {
-      progress = progressAfter (s .progress) injection;
-      regs = s .regs;
-      vmcs = vmcsAfter (withStack (s .vmcs) (s .progress .launched) stack) (frontOf (s .queue)) injection;
-      queue = queueAfter (s .queue) injection;
-      capabilities = s .capabilities;
-    }
+    let fields = vmcsAfter (withStack (s .vmcs) (s .progress .launched) stack) (frontOf (s .queue)) injection in
+    withProgress (withQueue (withVmcs s fields) (queueAfter (s .queue) injection)) (progressAfter (s .progress) injection)
 
 -- ---- entry
 

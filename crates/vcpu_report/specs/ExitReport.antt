@@ -5,7 +5,7 @@ use lib.Dec.{eqb}
 use Rattle.regs.specs.declared.GeneralRegisters.{GeneralRegisters}
 use Rattle.definitions.specs.VmxExitReason as VmxExitReason
 use Rattle.vcpu_session.specs.Phase as Phase
-use Rattle.vcpu_session.specs.Session.{inPhase}
+use Rattle.vcpu_session.specs.Session.{withProgress, withRegs, withVmcs, inPhase}
 use Rattle.vcpu_session.specs.declared.Session.{Session}
 use Rattle.vcpu_exit.specs.Reading.{reasonOf, failed, isApic}
 use Rattle.vcpu_exit.specs.Refusal.{reportRefusal}
@@ -25,26 +25,14 @@ registersAfter r = cond (eqb (reasonOf r) VmxExitReason.CPUID) (handleCpuid (r .
 unfoldable pub phaseAfter : Report → ℕ
 phaseAfter r = cond (eqb (reasonOf r) VmxExitReason.MSR_READ) (cond (isApic (r .regs .rcx)) Phase.WAITING Phase.READY) Phase.READY
 
--- a failed entry stores reason and qualification only, and ends the session
+-- a failed entry stores reason and qualification only, and ends the session; every other part stays
 unfoldable pub failedEntry : Session → Report → Session
-failedEntry s r =
-    record {
-      progress = inPhase (s .progress) Phase.ENDED;
-      regs = s .regs;
-      vmcs = failureStored (s .vmcs) r;
-      queue = s .queue;
-      capabilities = s .capabilities;
-    }
+failedEntry s r = withProgress (withVmcs s (failureStored (s .vmcs) r)) (inPhase (s .progress) Phase.ENDED)
 
+-- an exit changes the fields, the registers and the phase; every other part stays
 unfoldable pub afterExit : Session → Report → Session
 afterExit s r =
-    record {
-      progress = inPhase (s .progress) (phaseAfter r);
-      regs = registersAfter r;
-      vmcs = vmcsAfter (s .vmcs) (s .capabilities) r;
-      queue = s .queue;
-      capabilities = s .capabilities;
-    }
+    withProgress (withRegs (withVmcs s (vmcsAfter (s .vmcs) (s .capabilities) r)) (registersAfter r)) (inPhase (s .progress) (phaseAfter r))
 
 abbrev pub reported : ℕ → AxVCpuExitReason → Session → Reported
 reported n a s = record { refusal = n; answer = a; session = s }

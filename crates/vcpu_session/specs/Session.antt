@@ -47,6 +47,9 @@ withVmcs s x = record { progress = s .progress; regs = s .regs; vmcs = x; queue 
 abbrev pub withQueue : Session → Queue → Session
 withQueue s x = record { progress = s .progress; regs = s .regs; vmcs = s .vmcs; queue = x; capabilities = s .capabilities }
 
+abbrev pub withCapabilities : Session → Capabilities → Session
+withCapabilities s x = record { progress = s .progress; regs = s .regs; vmcs = s .vmcs; queue = s .queue; capabilities = x }
+
 abbrev pub inPhase : Progress → ℕ → Progress
 inPhase p x = record { phase = x; launched = p .launched; entries = p .entries; held = p .held }
 

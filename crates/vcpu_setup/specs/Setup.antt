@@ -6,7 +6,7 @@ use lib.Dec.{eqb}
 use Rattle.vmcs.specs.Control.{pairAt}
 use Rattle.vmcs.specs.declared.controls.Pair.{Pair}
 use Rattle.vcpu_session.specs.Phase as Phase
-use Rattle.vcpu_session.specs.Session.{isUnlawful, inPhase}
+use Rattle.vcpu_session.specs.Session.{isUnlawful, withProgress, withVmcs, withCapabilities, inPhase}
 use Rattle.vcpu_session.specs.declared.Fixed.{Fixed}
 use Rattle.vcpu_session.specs.declared.Capabilities.{Capabilities}
 use Rattle.vcpu_session.specs.declared.Session.{Session}
@@ -46,16 +46,9 @@ setupRefusal s c f =
     (cond (not (eqb (s .progress .phase) Phase.FRESH)) 1
     (capabilityRefusal c f))
 
--- ready, with the fields written and the capabilities kept; registers, queue and counts as they were
+-- ready, with the fields written and the capabilities kept; the counts and every other part stay
 unfoldable pub readied : Session → Arguments → Capabilities → Session
-readied s a c =
-    record {
-      progress = inPhase (s .progress) Phase.READY;
-      regs = s .regs;
-      vmcs = vmcsSet (s .vmcs) a;
-      queue = s .queue;
-      capabilities = c;
-    }
+readied s a c = withProgress (withCapabilities (withVmcs s (vmcsSet (s .vmcs) a)) c) (inPhase (s .progress) Phase.READY)
 
 -- refused by the number of `setupRefusal` unless that is 0
 unfoldable pub setupOf : Session → Arguments → Answered

@@ -1,12 +1,11 @@
 -- Well-typed calls keep sessions within their types, and lawful: every session that they lead to has a record. Assumes nothing.
-use Prim.Native.Nat.{ℕ, zero, suc, _-_, _^_, _<_}
+use Prim.Native.Nat.{ℕ, _-_, _^_, _<_}
 use mathlib.Core.Path.{_≡_}
 use mathlib.Core.Bool.{Bool, true, cond, not}
-use mathlib.Core.List.{List, [], _∷_, _++_}
+use mathlib.Core.List.{List}
 use native.Mathlib.Omega.{arith}
 use lib.Bits.{or-lt}
 use lib.Dec.{eqb, leb, ltb, lit<}
-use lib.ListN.{length, drop, length-append, length-drop}
 use borrow.Author.Tests.{eqb-false, leb-false, ltb-false}
 use Rattle.bits.specs.Words.{low32, high32}
 use Rattle.bits.proofs.WithBit.{withBit-lt}
@@ -40,6 +39,7 @@ use Rattle.vcpu_events.specs.Access.{fieldsWritten, registersWritten, edxEaxSet
 use Rattle.vcpu_setup.specs.Capability.{capabilitiesOf}
 use Rattle.vcpu_setup.specs.Setup.{setupRefusal, readied, setupOf}
 use Rattle.vcpu_setup.specs.Writes.{setupWrites}
+use Rattle.vcpu_setup.proofs.SetupLaws.{keeps-setup}
 use Rattle.blocks.specs.SetupBlock.{argumentsOf}
 use Rattle.record.specs.Fitting.{Fitting, ProgressFits, VmcsFits, QueueFits}
 use Rattle.record.proofs.FittingLaws.{progress-fits, regs-fits, vmcs-fits, queue-fits, capabilities-fits, in-phase-fits}
@@ -47,7 +47,6 @@ use Rattle.vcpu_report.proofs.ReportLaws.{report-laws}
 use Rattle.blocks.specs.ReportBlock as Report
 use Rattle.blocks.specs.ReportBlock.{reportOf}
 use Rattle.call_specs.specs.Records.{queueStep}
-use Rattle.call_specs.proofs.SetupCalls.{keeps-setup}
 use Rattle.calls.proofs.Keeps.{keeps-queue-step, keeps-interrupt, keeps-field, keeps-register, keeps-apic, keeps-entry}
 use Rattle.calls.specs.Reference.{Call, setup, queueEvent, injectInterrupt, entry, exitReport, apicValue, fieldWrite, registerWrite, WellTyped}
 use Rattle.calls.proofs.Choices.{cond-all}
@@ -247,7 +246,7 @@ fits s (registerWrite index value) w h = register-fits s h index value (w .1)
 
 keeps : (s : Session) (c : Call) → Lawful s → Lawful (next s c)
 keeps s (setup block a b msr) l =
-    cond-all (λ (r : Answered). Lawful (r .session)) (hasBuffers block a b msr) _ _ (λ _. keeps-setup (argumentsOf block) s l) (λ _. l)
+    cond-all (λ (r : Answered). Lawful (r .session)) (hasBuffers block a b msr) _ _ (λ _. keeps-setup s (argumentsOf block) l) (λ _. l)
 keeps s (queueEvent vector coded code) l = keeps-queue-step vector coded code s l
 keeps s (injectInterrupt vector) l = keeps-interrupt vector s l
 keeps s (entry stack) l = keeps-entry stack s l

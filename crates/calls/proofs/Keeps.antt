@@ -1,23 +1,21 @@
 -- Each step leaves a lawful session lawful. Assumes nothing.
 use mathlib.Core.Path.{_≡_, refl}
 use mathlib.Core.Bool.{Bool, true, false, cond, not}
-use Prim.Native.Nat.{ℕ, _+_, _-_, _^_, _≤_, _<_}
+use Prim.Native.Nat.{ℕ, _-_, _^_, _<_}
 use native.Mathlib.Omega.{arith}
 use lib.Dec.{eqb, leb, ltb}
 use borrow.Author.Tests.{leb-false}
-use Rattle.regs.specs.Registers.{withRegOfIndex}
-use Rattle.vmcs.specs.Fields.{vmcsWrite}
 use Rattle.vcpu_session.specs.Phase as Phase
 use Rattle.vcpu_session.specs.Session.{isUnlawful, Lawful}
 use Rattle.vcpu_session.specs.declared.Session.{Session}
-use Rattle.vcpu_events.specs.Queue.{answered, pushed, popped, queueEvent, injectInterrupt}
-use Rattle.vcpu_events.specs.Entry.{injectionOf, progressAfter, queueAfter, afterEntry, refusedEntry, entry}
+use Rattle.vcpu_session.proofs.LawfulLaws.{lawful-alike, lawful-phase, lawful-queue}
+use Rattle.vcpu_events.specs.Queue.{answered, pushed, queueEvent, injectInterrupt}
+use Rattle.vcpu_events.specs.Entry.{injectionOf, refusedEntry, entry}
 use Rattle.vcpu_events.specs.declared.Answered.{Answered}
 use Rattle.vcpu_events.specs.declared.Entered.{Entered}
-use Rattle.vcpu_events.specs.declared.Injection.{Injection}
-use Rattle.vcpu_events.specs.declared.Injection.the-variants.{Empty, Held, Written}
 use Rattle.vcpu_events.specs.declared.Event.{Event}
 use Rattle.vcpu_events.specs.Access.{writeField, setRegister, apicValue}
+use Rattle.vcpu_events.proofs.EntryLaws.{after-entry-lawful}
 use Rattle.call_specs.specs.Records.{queueStep}
 
 -- a test that refuses, before the rest
@@ -32,7 +30,7 @@ keeps-queue e s l =
     test (eqb (s .progress .phase) Phase.ENDED) 1 _ l (λ _.
     test (leb 64 (s .queue .waiting)) 13 _ l (λ h.
     let small : s .queue .waiting < 64 = leb-false 64 (s .queue .waiting) h in
-    record { phase = l .phase; waiting = omega arith; held = l .held })))
+    lawful-queue l (pushed (s .queue) e) (omega arith))))
 
 pub keeps-queue-step : (vector coded code : ℕ) (s : Session) → Lawful s → Lawful (queueStep vector coded code s .session)
 unfolding queueStep
@@ -48,32 +46,26 @@ keeps-interrupt vector s l =
 
 pub keeps-field : (encoding value : ℕ) (s : Session) → Lawful s → Lawful (writeField s encoding value .session)
 unfolding writeField
-keeps-field encoding value s l = test (isUnlawful s) 2 _ l (λ _. record { phase = l .phase; waiting = l .waiting; held = l .held })
+keeps-field encoding value s l = test (isUnlawful s) 2 _ l (λ _. lawful-alike l refl)
 
 pub keeps-register : (index value : ℕ) (s : Session) → Lawful s → Lawful (setRegister s index value .session)
 unfolding setRegister
-keeps-register index value s l = test (isUnlawful s) 2 _ l (λ _. record { phase = l .phase; waiting = l .waiting; held = l .held })
+keeps-register index value s l = test (isUnlawful s) 2 _ l (λ _. lawful-alike l refl)
 
 pub keeps-apic : (value : ℕ) (s : Session) → Lawful s → Lawful (apicValue s value .session)
 unfolding apicValue
 keeps-apic value s l =
     test (isUnlawful s) 2 _ l (λ _.
-    test (not (eqb (s .progress .phase) Phase.WAITING)) 1 _ l (λ _. record { phase = omega arith; waiting = l .waiting; held = l .held }))
+    test (not (eqb (s .progress .phase) Phase.WAITING)) 1 _ l (λ _. lawful-alike (lawful-phase l Phase.READY (omega arith)) refl))
 
 -- a test that refuses an entry, before the rest
 entry-test : {s : Session} (b : Bool) (n : ℕ) (r : Entered) → Lawful s → (b ≡ false → Lawful (r .session)) → Lawful (cond b (refusedEntry n s) r .session)
 entry-test true n r l f = l
 entry-test false n r l f = f refl
 
-after : (s : Session) (stack : ℕ) (injection : Injection) → Lawful s → Lawful (afterEntry s stack injection)
-unfolding afterEntry progressAfter queueAfter popped
-after s stack Empty l = record { phase = omega arith; waiting = l .waiting; held = omega (arith, l .held) }
-after s stack Held l = record { phase = omega arith; waiting = l .waiting; held = omega (arith, l .held) }
-after s stack Written l = record { phase = omega arith; waiting = omega (arith, l .waiting); held = omega (arith, l .held) }
-
 pub keeps-entry : (stack : ℕ) (s : Session) → Lawful s → Lawful (entry s stack .session)
 unfolding entry
 keeps-entry stack s l =
     entry-test (isUnlawful s) 2 _ l (λ _.
     entry-test (not (eqb (s .progress .phase) Phase.READY)) 1 _ l (λ _.
-    entry-test (eqb (s .progress .entries) (2 ^ 32 - 1)) 22 _ l (λ _. after s stack (injectionOf (s .queue) (s .vmcs)) l)))
+    entry-test (eqb (s .progress .entries) (2 ^ 32 - 1)) 22 _ l (λ _. after-entry-lawful s stack (injectionOf (s .queue) (s .vmcs)) l)))

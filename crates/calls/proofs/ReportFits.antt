@@ -31,7 +31,7 @@ use Rattle.vcpu_session.specs.declared.Capabilities.{Capabilities}
 use Rattle.vcpu_session.specs.declared.Fixed.{Fixed}
 use Rattle.vcpu_session.specs.declared.Session.{Session}
 use Rattle.vcpu_session.specs.Session.{VMX_PREEMPTION_TIMER_SET_VALUE}
-use Rattle.vcpu_exit.specs.Reading.{reasonOf, failed, isApic, registerOf, movedValue, isMoveTo, advanceOf, pastEnd}
+use Rattle.vcpu_exit.specs.Reading.{reasonOf, failed, registerOf, movedValue, isMoveTo, advanceOf, pastEnd}
 use Rattle.vcpu_exit.specs.Refusal.{entryPair, reportRefusal}
 use Rattle.vcpu_exit.specs.declared.CpuidWords.{CpuidWords}
 use Rattle.vcpu_exit.specs.declared.Report.{Report}
@@ -41,8 +41,9 @@ use Rattle.vcpu_events.specs.Entry.{windowWord, windowSet}
 use Rattle.vcpu_report.specs.Handlers.{reportWrites, stored, failureWrites, failureStored, timerSet, cr0Set, cr4Set, eferWrites, eferUpdated, crHandled, handledAs, ripAdvanced, vmcsAfter}
 use Rattle.blocks.specs.ReportLayout as Layout
 use Rattle.blocks.specs.ReportBlock.{cpuidOf, reportOf}
-use Rattle.vcpu_report.specs.ExitReport.{registersAfter, phaseAfter, failedEntry, afterExit, accepted, exitReport}
+use Rattle.vcpu_report.specs.ExitReport.{registersAfter, failedEntry, afterExit, accepted, exitReport}
 use Rattle.vcpu_report.specs.declared.Reported.{Reported}
+use Rattle.vcpu_report.proofs.ReportLaws.{phase-known}
 use Rattle.record.specs.Runs.{All, Numbers, readAll, numbers}
 use Rattle.record.specs.Fitting.{Fitting, VmcsFits, PairFits, FixedFits, CapabilitiesFit}
 use Rattle.record.proofs.FittingLaws.{regs-fits, vmcs-fits, in-phase-fits}
@@ -242,12 +243,6 @@ within-end : (r : Report) → pastEnd r ≡ false → r .rip + advanceOf r < 2 ^
 unfolding pastEnd
 within-end r e = let z = ltb-false 18446744073709551615 (r .rip + advanceOf r) e in omega arith
 
-phase-fits : (r : Report) → phaseAfter r < 256
-unfolding phaseAfter
-phase-fits r =
-    cond-all (λ (n : ℕ). n < 256) (eqb (reasonOf r) VmxExitReason.MSR_READ) _ _
-    (λ _. cond-all (λ (n : ℕ). n < 256) (isApic (r .regs .rcx)) _ _ (λ _. lit< tt) (λ _. lit< tt)) (λ _. lit< tt)
-
 pub report-fits : (s : Session) (r : Report) → FitsReport r → Sound s → Fitting (exitReport s r .session)
 unfolding exitReport accepted failedEntry afterExit
 report-fits s r f h =
@@ -256,7 +251,7 @@ report-fits s r f h =
     (λ _. in-phase-fits (vmcs-fits (h .fits) (failure-fits (s .vmcs) r f (h .fits .vmcs))) (lit< tt))
     (λ u.
     let fields = after-fits (s .vmcs) (s .capabilities) r (h .fits .capabilities) f (within-end r (passes s r (eqb-true _ _ t) u .sum)) (h .fits .vmcs) in
-    in-phase-fits (regs-fits (vmcs-fits (h .fits) fields) (registersAfter r) (registers-fit r f)) (phase-fits r)))
+    in-phase-fits (regs-fits (vmcs-fits (h .fits) fields) (registersAfter r) (registers-fit r f)) (omega (arith, phase-known r))))
     (λ _. h .fits)
   where
     P : Reported → Type 0

@@ -5,7 +5,7 @@ use mathlib.Core.List.{List}
 use Prim.Native.Nat.{ℕ, _+_, _-_, _*_, _/_, _^_, _≤_, _<_}
 use native.Mathlib.Nat.{mul-one}
 use native.Mathlib.Omega.{arith}
-use lib.ListN.{length, getD, take, drop, set}
+use lib.ListN.{getD, take, drop, set}
 use lib.Seq.{sets}
 use lib.Dec.{lit<}
 use mir.Syntax.{w8}
@@ -13,13 +13,14 @@ use mir.Val.{Fits}
 use Rattle.bits.specs.Words.{withBit}
 use Rattle.bits.specs.LittleEndian.{bytesOf, Below}
 use Rattle.bits.proofs.LittleEndianLaws.{length-bytesOf}
-use Rattle.regs.specs.Registers.{listOf, ofList, withReg}
+use Rattle.regs.specs.Registers.{listOf, withReg}
 use Rattle.regs.specs.declared.GeneralRegisters.{GeneralRegisters}
-use Rattle.vmcs.specs.Field.{Field, Word16, Word64, Word32, Natural, placeOf, sizeOf, widthBits, put}
+use Rattle.vmcs.specs.Field.{Field, Word16, Word64, Word32, Natural, placeOf, sizeOf, widthBits}
 use Rattle.vcpu_session.specs.Session.{Lawful, withProgress, withRegs, withQueue, inPhase}
 use Rattle.vcpu_session.specs.declared.Progress.{Progress}
 use Rattle.vcpu_session.specs.declared.Queue.{Queue}
 use Rattle.vcpu_session.specs.declared.Session.{Session}
+use Rattle.vcpu_session.proofs.LawfulLaws.{lawful-alike, lawful-progress, lawful-phase, lawful-queue}
 use Rattle.vcpu_events.specs.Queue.{shifted, pushed, popped}
 use Rattle.vcpu_events.specs.declared.Event.{Event}
 use Rattle.record.specs.Record as Record
@@ -36,13 +37,9 @@ use Rattle.record_edits.proofs.Parts.{Form, length-run, Spells, value-p
 
 -- ---- the bytes of a session
 
--- of one that a record can hold: the three facts are `Lawful`
-held : {b : List ℕ} {s : Session} → Spells b s → s .progress .phase ≤ 4 → s .queue .waiting ≤ 64 → s .progress .held ≤ s .progress .entries → Holds b s
-held {b} {s} h phase waiting counts =
-    record {
-      accepted = rw (h .bytes) (lawful-accepted s (h .fits) (record { phase = phase; waiting = waiting; held = counts }));
-      session = rw (h .bytes) (session-read s (h .fits));
-    }
+-- of one that a record can hold
+pub held : {b : List ℕ} {s : Session} → Spells b s → Lawful s → Holds b s
+held {b} {s} h l = record { accepted = rw (h .bytes) (lawful-accepted s (h .fits) l); session = rw (h .bytes) (session-read s (h .fits)) }
 
 pub held-bytes : {s : Session} {b : List ℕ} → Below 256 b → Holds b s → b ≡ encodeOf s
 held-bytes {s} {b} below h = sym (record-written b (whole b (h .accepted)) below (h .accepted)) ∙ ap encodeOf (h .session)
@@ -232,17 +229,17 @@ module _ (b : List ℕ) (ok : acceptedOf b ≡ true) (known : (i : ℕ) → Fits
 
   pub field-held : {after : List ℕ} (g : Field) (x : ℕ) → placeOf g < sizeOf g → x < 2 ^ widthBits g → after ≡ sets b (offset g) (bytesOf (bytes g) x)
       → Holds after (withField (sessionOf b) g x)
-  field-held g x place small e = held (with-field own g x place small e) (lawful .phase) (lawful .waiting) (lawful .held)
+  field-held g x place small e = held (with-field own g x place small e) (lawful-alike lawful refl)
 
   pub reg-held : {after : List ℕ} (i x : ℕ) → i < 16 → x < 2 ^ 64 → after ≡ sets b (Record.REGS + i * 8) (bytesOf 8 x)
       → Holds after (withRegs (sessionOf b) (withReg (sessionOf b .regs) i x))
-  reg-held i x place small e = held (with-reg own i x place small e) (lawful .phase) (lawful .waiting) (lawful .held)
+  reg-held i x place small e = held (with-reg own i x place small e) (lawful-alike lawful refl)
 
   pub regs-held : {after : List ℕ} (g : GeneralRegisters) → Numbers 16 8 (listOf g) → after ≡ sets b Record.REGS (numberBytes 8 (listOf g)) → Holds after (withRegs (sessionOf b) g)
-  regs-held g small e = held (with-regs own g small e) (lawful .phase) (lawful .waiting) (lawful .held)
+  regs-held g small e = held (with-regs own g small e) (lawful-alike lawful refl)
 
   pub phase-held : {after : List ℕ} (x : ℕ) → x ≤ 4 → after ≡ sets b Record.PHASE (bytesOf 1 x) → Holds after (withProgress (sessionOf b) (inPhase (sessionOf b .progress) x))
-  phase-held x h e = held (with-phase own x (omega arith) e) h (lawful .waiting) (lawful .held)
+  phase-held x h e = held (with-phase own x (omega arith) e) (lawful-phase lawful x h)
 
   pub progress-held : {b₁ b₂ b₃ b₄ : List ℕ} (p : Progress) → ProgressFits p → p .phase ≤ 4 → p .held ≤ p .entries
       → b₁ ≡ sets b Record.PHASE (bytesOf 1 (p .phase)) → b₂ ≡ sets b₁ Record.LAUNCHED (flagBytes (p .launched))
@@ -250,7 +247,7 @@ module _ (b : List ℕ) (ok : acceptedOf b ≡ true) (known : (i : ℕ) → Fits
       → Holds b₄ (withProgress (sessionOf b) p)
   progress-held p f phase counts e₁ e₂ e₃ e₄ =
       let two = with-launched (with-phase own (p .phase) (f .phase) e₁) (p .launched) e₂ in
-      held (with-held (with-entries two (p .entries) (f .entries) e₃) (p .held) (f .held) e₄) phase (lawful .waiting) counts
+      held (with-held (with-entries two (p .entries) (f .entries) e₃) (p .held) (f .held) e₄) (lawful-progress lawful p phase counts)
 
   -- n events wait, `code` is the one that is stored, and `word` says which events have one
   pub push-held : {n code word : ℕ} {b₁ b₂ b₃ b₄ : List ℕ} (e : Event) → n ≡ sessionOf b .queue .waiting → code ≡ cond (e .coded) (e .code) 0
@@ -262,7 +259,7 @@ module _ (b : List ℕ) (ok : acceptedOf b ≡ true) (known : (i : ℕ) → Fits
   unfolding pushed
   push-held {n} {code} {word} e read stored marked room vector small fits e₁ e₂ e₃ e₄ =
       let two = with-coded (with-vector own n (e .vector) room vector e₁) word fits e₂ in
-      rw (← read, ← stored, ← marked) (held (with-waiting (with-code two n code room small e₃) (n + 1) (omega arith) e₄) (lawful .phase) (omega arith) (lawful .held))
+      rw (← read, ← stored, ← marked) (held (with-waiting (with-code two n code room small e₃) (n + 1) (omega arith) e₄) (lawful-queue lawful _ (omega arith)))
 
   -- n events wait after it, and `word` says which of them have a code
   pub pop-held : {n word : ℕ} {b₁ b₂ b₃ b₄ : List ℕ} → n ≡ sessionOf b .queue .waiting - 1 → word ≡ sessionOf b .queue .coded / 2
@@ -274,4 +271,4 @@ module _ (b : List ℕ) (ok : acceptedOf b ≡ true) (known : (i : ℕ) → Fits
       let few : n < 64 = omega (arith, lawful .waiting) in
       let small : Takes 8 word = omega (arith, own .fits .queue .coded) in
       let two = with-coded (vectors-down (with-waiting own n (omega arith) e₁) n few e₂) word small e₃ in
-      rw (← less, ← halved) (held (codes-down two n few e₄) (lawful .phase) (omega arith) (lawful .held))
+      rw (← less, ← halved) (held (codes-down two n few e₄) (lawful-queue lawful _ (omega arith)))

@@ -1,1 +1,2 @@
 pub mod Stays
+pub mod EntryLaws

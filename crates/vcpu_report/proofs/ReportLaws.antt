@@ -14,8 +14,10 @@ use Rattle.vmcs.specs.Names.VmcsReadOnly32 as VmcsReadOnly32
 use Rattle.vmcs.specs.Names.VmcsReadOnlyNW as VmcsReadOnlyNW
 use Rattle.vmcs.specs.Writes.{Sized}
 use Rattle.vmcs.proofs.WriteLaws.{sized-applied, read-applied}
+use Rattle.vcpu_session.specs.Phase as Phase
 use Rattle.vcpu_session.specs.Session.{Lawful}
 use Rattle.vcpu_session.specs.declared.Session.{Session}
+use Rattle.vcpu_session.proofs.LawfulLaws.{lawful-alike, lawful-phase}
 use Rattle.vcpu_exit.specs.Reading.{reasonOf, failed, isApic}
 use Rattle.vcpu_exit.specs.Refusal.{reportRefusal}
 use Rattle.vcpu_exit.specs.declared.Report.{Report}
@@ -31,6 +33,13 @@ use Rattle.vcpu_report.specs.declared.Reported.{Reported}
 use Rattle.vcpu_report.proofs.Steps.{kept-field}
 use Rattle.vcpu_report.proofs.Known.{known-after, rip-after, invalid}
 use Rattle.vcpu_report.proofs.Kept.{kept-after, kept-failure}
+
+-- the phase after an exit is one of the five
+pub phase-known : (r : Report) → phaseAfter r ≤ 4
+unfolding phaseAfter
+phase-known r =
+    cond-all (λ (n : ℕ). n ≤ 4) (eqb (reasonOf r) VmxExitReason.MSR_READ) _ _
+    (λ _. cond-all (λ (n : ℕ). n ≤ 4) (isApic (r .regs .rcx)) _ _ (λ _. omega arith) (λ _. omega arith)) (λ _. omega arith)
 
 module _ (s : Session) (r : Report) where
   -- what holds of a refused report, of a failed entry and of an exit holds of the report
@@ -70,17 +79,11 @@ module _ (s : Session) (r : Report) where
       by-outcome (λ (a : Reported). SameRest s (a .session)) (same s refl refl refl refl refl) (λ _ _. same (failedEntry s r) refl refl refl refl refl)
       (λ _ _. same (afterExit s r) refl refl refl refl refl)
 
-  phase-law : phaseAfter r ≤ 4
-  unfolding phaseAfter
-  phase-law =
-      cond-all (λ (n : ℕ). n ≤ 4) (eqb (reasonOf r) VmxExitReason.MSR_READ) _ _
-      (λ _. cond-all (λ (n : ℕ). n ≤ 4) (isApic (r .regs .rcx)) _ _ (λ _. omega arith) (λ _. omega arith)) (λ _. omega arith)
-
   lawful-law : Lawful s → Lawful (exitReport s r .session)
   unfolding failedEntry afterExit
   lawful-law l =
-      by-outcome (λ (a : Reported). Lawful (a .session)) l (λ _ _. record { phase = omega arith; waiting = l .waiting; held = l .held })
-      (λ _ _. record { phase = phase-law; waiting = l .waiting; held = l .held })
+      by-outcome (λ (a : Reported). Lawful (a .session)) l (λ _ _. lawful-alike (lawful-phase l Phase.ENDED (omega arith)) refl)
+      (λ _ _. lawful-alike (lawful-phase l (phaseAfter r) (phase-known r)) refl)
 
   -- ---- the fields
 

@@ -1,4 +1,4 @@
--- The laws of an accepted setup, and a refused one changes nothing. Assumes nothing.
+-- The laws of an accepted setup, a refused one changes nothing, and both keep a lawful session lawful. Assumes nothing.
 use Prim.Native.Nat.{ℕ, zero, suc, _<_, _^_}
 use native.Mathlib.Omega.{arith}
 use mathlib.Core.Path.{_≡_, refl, sym, ap, _∙_}
@@ -22,9 +22,10 @@ use Rattle.vmcs.specs.Names.VmcsGuestNW as VmcsGuestNW
 use Rattle.vmcs.proofs.CrLaws.{cr0-permitted, cr4-permitted}
 use Rattle.vmcs.proofs.WriteLaws.{read-applied, sized-applied}
 use Rattle.vcpu_session.specs.Phase as Phase
-use Rattle.vcpu_session.specs.Session.{isUnlawful}
+use Rattle.vcpu_session.specs.Session.{isUnlawful, Lawful}
 use Rattle.vcpu_session.specs.declared.Capabilities.{Capabilities}
 use Rattle.vcpu_session.specs.declared.Session.{Session}
+use Rattle.vcpu_session.proofs.LawfulLaws.{lawful-alike, lawful-phase}
 use Rattle.vcpu_events.specs.Queue.{answered}
 use Rattle.vcpu_events.specs.declared.Answered.{Answered}
 use Rattle.vcpu_setup.specs.Capability.{pairsOf, oldsOf, capabilitiesOf}
@@ -177,6 +178,15 @@ module _ (s : Session) (a : Arguments) where
       keeps : (m : ℕ) → (cond (eqb m 0) (answered 0 (readied s a c)) (answered m s) .refusal ≡ 0 → ⊥) → cond (eqb m 0) (answered 0 (readied s a c)) (answered m s) .session ≡ s
       keeps zero n = absurd (n refl)
       keeps (suc m) n = rw (eqb·suc-zero m)
+
+  -- a lawful session stays lawful
+  pub keeps-setup : Lawful s → Lawful (setupOf s a .session)
+  unfolding setupOf readied
+  keeps-setup l = go (eqb (setupRefusal s c (a .features)) 0)
+    where
+      go : (t : Bool) → Lawful (cond t (answered 0 (readied s a c)) (answered (setupRefusal s c (a .features)) s) .session)
+      go true = lawful-alike (lawful-phase l Phase.READY (omega arith)) refl
+      go false = l
 
 -- setup writes 93 fields
 pub ninety-three : (a : Arguments) → length (setupWrites a) ≡ 93

@@ -1,22 +1,12 @@
 -- `entry_edits::after_entry` meets its contract. Assumes nothing.
 use Prim.Native.Nat.{_≤_}
-use native.Mathlib.Omega.{arith}
 use borrow.Author.Needs.{needs}
-use Rattle.vcpu_session.specs.declared.Progress.{Progress}
-use Rattle.vcpu_events.specs.Entry.{progressAfter, afterEntry}
-use Rattle.vcpu_events.specs.declared.Injection.{Injection}
-use Rattle.vcpu_events.specs.declared.Injection.the-variants.{Empty, Held, Written}
+use Rattle.vcpu_events.specs.Entry.{afterEntry}
+use Rattle.vcpu_events.proofs.EntryLaws.{progress-after-lawful}
 use Rattle.record.proofs.RoundTrip.{session-lawful}
 use Rattle.record.proofs.Accepted.{whole}
 use Rattle.entry_edits.proofs.after_entry.Statement.{statement}
 use Rattle.entry_edits.proofs.after_entry.Tie as tie
-
--- what a record asks of where the session stands after an entry
-counts : (p : Progress) (i : Injection) → p .held ≤ p .entries → (progressAfter p i .phase ≤ 4) × (progressAfter p i .held ≤ progressAfter p i .entries)
-unfolding progressAfter
-counts p Empty h = (omega arith, omega arith)
-counts p Held h = (omega arith, omega arith)
-counts p Written h = (omega arith, omega arith)
 
 -- the counts that were read
 held : (c : tie.After-progress-at) → c .progress-at .result .held ≤ c .progress-at .result .entries
@@ -30,7 +20,7 @@ below c κs =
     (rw (p .progress-at .ensures) (p .before .before .before .pre .1), held p)
 
 counted : (c : tie.After-progress-after) → let n = c .progress-after .result in (n .phase ≤ 4) × (n .held ≤ n .entries)
-counted c = rw (c .progress-after .ensures) (counts _ _ (held (c .before .before .before)))
+counted c = rw (c .progress-after .ensures) (progress-after-lawful _ _ (held (c .before .before .before)))
 
 writable : tie.Need-put-progress-requires
 writable c κs =

@@ -23,15 +23,13 @@ use Rattle.record.specs.Fitting.{Fitting}
 use Rattle.record.specs.Acceptable.{Acceptable}
 use Rattle.record.specs.Faithful.{Faithful}
 use Rattle.record.proofs.Stores.{sets-whole}
+use Rattle.record.proofs.PartNames as Part
+use Rattle.record.proofs.PartNames.{sizes}
 use Rattle.record.proofs.Parts.{total, starts, cut, length-flatten, stored-parts, from-part, joined}
 use Rattle.record.proofs.Loops.{length-readAll}
 use Rattle.record.proofs.Flags.{flag-written}
 use Rattle.record.proofs.Accepted.{passed, whole, acceptable, accepts-acceptable}
 use Rattle.record.proofs.Codecs.{Codec, run, number, numbers-codec, registers-read, yes-no, pair, fixed}
-
--- how many bytes each part has
-abbrev pub sizes : List ℕ
-sizes = 1 ∷ 1 ∷ 4 ∷ 4 ∷ 128 ∷ 34 ∷ 200 ∷ 328 ∷ 368 ∷ 1 ∷ 64 ∷ 8 ∷ 256 ∷ 40 ∷ 16 ∷ 16 ∷ []
 
 -- ---- the bytes of a session
 
@@ -81,22 +79,22 @@ module _ (s : Session) (f : Fitting s) where
   pub session-read : sessionOf (encodeOf s) ≡ s
   unfolding sessionOf flatten
   session-read =
-      let phase = part-read (number 1) (s .progress .phase) _ _ (f .progress .phase) (from 0) in
-      let launched = part-read yes-no (s .progress .launched) _ _ tt (from 1) in
-      let entries = part-read (number 4) (s .progress .entries) _ _ (f .progress .entries) (from 2) in
-      let held = part-read (number 4) (s .progress .held) _ _ (f .progress .held) (from 3) in
-      let regs = part-read (numbers-codec 8 16) (listOf (s .regs)) _ _ (f .regs) (from 4) in
-      let w16 = part-read (numbers-codec 2 17) (s .vmcs .w16) _ _ (f .vmcs .w16) (from 5) in
-      let w32 = part-read (numbers-codec 4 50) (s .vmcs .w32) _ _ (f .vmcs .w32) (from 6) in
-      let w64 = part-read (numbers-codec 8 41) (s .vmcs .w64) _ _ (f .vmcs .w64) (from 7) in
-      let natural = part-read (numbers-codec 8 46) (s .vmcs .natural) _ _ (f .vmcs .natural) (from 8) in
-      let waiting = part-read (number 1) (s .queue .waiting) _ _ (f .queue .waiting) (from 9) in
-      let vectors = part-read (numbers-codec 1 64) (s .queue .vectors) _ _ (f .queue .vectors) (from 10) in
-      let coded = part-read (number 8) (s .queue .coded) _ _ (f .queue .coded) (from 11) in
-      let codes = part-read (numbers-codec 4 64) (s .queue .codes) _ _ (f .queue .codes) (from 12) in
-      let pairs = part-read (run pair 5) (s .capabilities .pairs) _ _ (f .capabilities .pairs) (from 13) in
-      let cr0 = part-read fixed (s .capabilities .cr0) _ _ (f .capabilities .cr0) (from 14) in
-      let cr4 = part-read fixed (s .capabilities .cr4) _ _ (f .capabilities .cr4) (from 15) in
+      let phase = part-read (number 1) (s .progress .phase) _ _ (f .progress .phase) (from Part.PHASE) in
+      let launched = part-read yes-no (s .progress .launched) _ _ tt (from Part.LAUNCHED) in
+      let entries = part-read (number 4) (s .progress .entries) _ _ (f .progress .entries) (from Part.ENTRIES) in
+      let held = part-read (number 4) (s .progress .held) _ _ (f .progress .held) (from Part.HELD) in
+      let regs = part-read (numbers-codec 8 16) (listOf (s .regs)) _ _ (f .regs) (from Part.REGS) in
+      let w16 = part-read (numbers-codec 2 17) (s .vmcs .w16) _ _ (f .vmcs .w16) (from Part.W16) in
+      let w32 = part-read (numbers-codec 4 50) (s .vmcs .w32) _ _ (f .vmcs .w32) (from Part.W32) in
+      let w64 = part-read (numbers-codec 8 41) (s .vmcs .w64) _ _ (f .vmcs .w64) (from Part.W64) in
+      let natural = part-read (numbers-codec 8 46) (s .vmcs .natural) _ _ (f .vmcs .natural) (from Part.NATURAL) in
+      let waiting = part-read (number 1) (s .queue .waiting) _ _ (f .queue .waiting) (from Part.WAITING) in
+      let vectors = part-read (numbers-codec 1 64) (s .queue .vectors) _ _ (f .queue .vectors) (from Part.VECTORS) in
+      let coded = part-read (number 8) (s .queue .coded) _ _ (f .queue .coded) (from Part.CODED) in
+      let codes = part-read (numbers-codec 4 64) (s .queue .codes) _ _ (f .queue .codes) (from Part.CODES) in
+      let pairs = part-read (run pair 5) (s .capabilities .pairs) _ _ (f .capabilities .pairs) (from Part.PAIRS) in
+      let cr0 = part-read fixed (s .capabilities .cr0) _ _ (f .capabilities .cr0) (from Part.CR0) in
+      let cr4 = part-read fixed (s .capabilities .cr4) _ _ (f .capabilities .cr4) (from Part.CR4) in
       λ i.
       record {
         progress = record { phase = phase i; launched = launched i; entries = entries i; held = held i };
@@ -109,15 +107,15 @@ module _ (s : Session) (f : Fitting s) where
   pub lawful-accepted : Lawful s → acceptedOf (encodeOf s) ≡ true
   unfolding acceptedOf flatten
   lawful-accepted l =
-      let phase = part-read (number 1) (s .progress .phase) _ _ (f .progress .phase) (from 0) in
-      let entries = part-read (number 4) (s .progress .entries) _ _ (f .progress .entries) (from 2) in
-      let held = part-read (number 4) (s .progress .held) _ _ (f .progress .held) (from 3) in
-      let waiting = part-read (number 1) (s .queue .waiting) _ _ (f .queue .waiting) (from 9) in
+      let phase = part-read (number 1) (s .progress .phase) _ _ (f .progress .phase) (from Part.PHASE) in
+      let entries = part-read (number 4) (s .progress .entries) _ _ (f .progress .entries) (from Part.ENTRIES) in
+      let held = part-read (number 4) (s .progress .held) _ _ (f .progress .held) (from Part.HELD) in
+      let waiting = part-read (number 1) (s .queue .waiting) _ _ (f .queue .waiting) (from Part.WAITING) in
       rw (
         eq-eqb _ _ length-encodeOf,
         phase,
         le-leb _ _ (l .phase),
-        le-leb _ _ (flag-written (s .progress .launched) _ _ (from 1)),
+        le-leb _ _ (flag-written (s .progress .launched) _ _ (from Part.LAUNCHED)),
         entries,
         held,
         le-leb _ _ (l .held),

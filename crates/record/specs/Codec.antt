@@ -69,7 +69,7 @@ sessionOf b =
 abbrev pub withField : Session → Field → ℕ → Session
 withField s f x = withVmcs s (put (s .vmcs) f x)
 
--- ---- the bytes of a session: those of each part, in order
+-- ---- the bytes of a session: those of each part, in order. A new part goes to the end, so that no other moves
 
 abbrev pub progressParts : Progress → List (List ℕ)
 progressParts p = bytesOf 1 (p .phase) ∷ flagBytes (p .launched) ∷ bytesOf 4 (p .entries) ∷ bytesOf 4 (p .held) ∷ []

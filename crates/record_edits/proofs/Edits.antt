@@ -30,6 +30,7 @@ use Rattle.record.specs.Fitting.{ProgressFits, Fitting}
 use Rattle.record.proofs.Flags.{length-flagBytes}
 use Rattle.record.proofs.Accepted.{whole}
 use Rattle.record.proofs.FittingLaws.{progress-fits, regs-fits, vmcs-fits, queue-fits, in-phase-fits}
+use Rattle.record.proofs.PartNames as Part
 use Rattle.record.proofs.RoundTrip.{lawful-accepted, session-read, session-fits, session-lawful, record-written}
 use Rattle.record_edits.specs.Holds.{Holds}
 use Rattle.record_edits.proofs.Fits.{numbers-set, numbers-shifted, listed, put-fits}
@@ -101,10 +102,10 @@ down l at by n last = sets (sets l at (take n (drop (at + by) l))) (at + n) last
 module _ {b : List ℕ} {s : Session} (h : Spells b s) where
   stored-field : {after : List ℕ} (g : Field) (x : ℕ) → placeOf g < sizeOf g → after ≡ sets b (offset g) (bytesOf (bytes g) x) → after ≡ encodeOf (withField s g x)
   unfolding encodeOf
-  stored-field (Word16 k) x l e = element-put h 5 (lit< tt) (number 2) (s .vmcs .w16) refl k x (rw (h .fits .vmcs .w16 .sized) l) e
-  stored-field (Word64 k) x l e = element-put h 7 (lit< tt) (number 8) (s .vmcs .w64) refl k x (rw (h .fits .vmcs .w64 .sized) l) e
-  stored-field (Word32 k) x l e = element-put h 6 (lit< tt) (number 4) (s .vmcs .w32) refl k x (rw (h .fits .vmcs .w32 .sized) l) e
-  stored-field (Natural k) x l e = element-put h 8 (lit< tt) (number 8) (s .vmcs .natural) refl k x (rw (h .fits .vmcs .natural .sized) l) e
+  stored-field (Word16 k) x l e = element-put h Part.W16 (lit< tt) (number 2) (s .vmcs .w16) refl k x (rw (h .fits .vmcs .w16 .sized) l) e
+  stored-field (Word64 k) x l e = element-put h Part.W64 (lit< tt) (number 8) (s .vmcs .w64) refl k x (rw (h .fits .vmcs .w64 .sized) l) e
+  stored-field (Word32 k) x l e = element-put h Part.W32 (lit< tt) (number 4) (s .vmcs .w32) refl k x (rw (h .fits .vmcs .w32 .sized) l) e
+  stored-field (Natural k) x l e = element-put h Part.NATURAL (lit< tt) (number 8) (s .vmcs .natural) refl k x (rw (h .fits .vmcs .natural .sized) l) e
 
   with-field : {after : List ℕ} (g : Field) (x : ℕ) → placeOf g < sizeOf g → x < 2 ^ widthBits g → after ≡ sets b (offset g) (bytesOf (bytes g) x) → Spells after (withField s g x)
   with-field g x known small e = record { fits = vmcs-fits (h .fits) (put-fits (h .fits .vmcs) g x small); bytes = stored-field g x known e }
@@ -112,7 +113,7 @@ module _ {b : List ℕ} {s : Session} (h : Spells b s) where
   -- the registers: all of them, and one
   with-regs : {after : List ℕ} (g : GeneralRegisters) → Numbers 16 8 (listOf g) → after ≡ sets b Record.REGS (numberBytes 8 (listOf g)) → Spells after (withRegs s g)
   unfolding encodeOf
-  with-regs g small e = record { fits = regs-fits (h .fits) g small; bytes = value-put h 4 (lit< tt) registers (s .regs) g refl e }
+  with-regs g small e = record { fits = regs-fits (h .fits) g small; bytes = value-put h Part.REGS (lit< tt) registers (s .regs) g refl e }
 
   with-reg : {after : List ℕ} (i x : ℕ) → i < 16 → x < 2 ^ 64 → after ≡ sets b (Record.REGS + i * 8) (bytesOf 8 x) → Spells after (withRegs s (withReg (s .regs) i x))
   unfolding encodeOf
@@ -122,7 +123,7 @@ module _ {b : List ℕ} {s : Session} (h : Spells b s) where
       let same = listed list (numbers .sized) in
       record {
         fits = regs-fits (h .fits) (withReg (s .regs) i x) (rw same numbers);
-        bytes = rw same (element-put h 4 (lit< tt) (number 8) (listOf (s .regs)) refl i x known e);
+        bytes = rw same (element-put h Part.REGS (lit< tt) (number 8) (listOf (s .regs)) refl i x known e);
       }
 
   -- where the session stands
@@ -131,7 +132,7 @@ module _ {b : List ℕ} {s : Session} (h : Spells b s) where
   with-phase x small e =
       record {
         fits = in-phase-fits (h .fits) small;
-        bytes = value-put h 0 (lit< tt) (number 1) (s .progress .phase) x refl e;
+        bytes = value-put h Part.PHASE (lit< tt) (number 1) (s .progress .phase) x refl e;
       }
 
   with-launched : {after : List ℕ} (x : Bool) → after ≡ sets b Record.LAUNCHED (flagBytes x) → Spells after (withProgress s (withLaunched (s .progress) x))
@@ -139,7 +140,7 @@ module _ {b : List ℕ} {s : Session} (h : Spells b s) where
   with-launched x e =
       record {
         fits = progress-fits (h .fits) (record { phase = h .fits .progress .phase; entries = h .fits .progress .entries; held = h .fits .progress .held });
-        bytes = value-put h 1 (lit< tt) yes-no (s .progress .launched) x refl e;
+        bytes = value-put h Part.LAUNCHED (lit< tt) yes-no (s .progress .launched) x refl e;
       }
 
   with-entries : {after : List ℕ} (x : ℕ) → Takes 4 x → after ≡ sets b Record.ENTRIES (bytesOf 4 x) → Spells after (withProgress s (withEntries (s .progress) x))
@@ -147,7 +148,7 @@ module _ {b : List ℕ} {s : Session} (h : Spells b s) where
   with-entries x small e =
       record {
         fits = progress-fits (h .fits) (record { phase = h .fits .progress .phase; entries = small; held = h .fits .progress .held });
-        bytes = value-put h 2 (lit< tt) (number 4) (s .progress .entries) x refl e;
+        bytes = value-put h Part.ENTRIES (lit< tt) (number 4) (s .progress .entries) x refl e;
       }
 
   with-held : {after : List ℕ} (x : ℕ) → Takes 4 x → after ≡ sets b Record.HELD (bytesOf 4 x) → Spells after (withProgress s (withHeld (s .progress) x))
@@ -155,7 +156,7 @@ module _ {b : List ℕ} {s : Session} (h : Spells b s) where
   with-held x small e =
       record {
         fits = progress-fits (h .fits) (record { phase = h .fits .progress .phase; entries = h .fits .progress .entries; held = small });
-        bytes = value-put h 3 (lit< tt) (number 4) (s .progress .held) x refl e;
+        bytes = value-put h Part.HELD (lit< tt) (number 4) (s .progress .held) x refl e;
       }
 
   -- the queue: how many wait, which have a code, value i of a part, and the n values after the first moved down by one
@@ -164,7 +165,7 @@ module _ {b : List ℕ} {s : Session} (h : Spells b s) where
   with-waiting x small e =
       record {
         fits = queue-fits (h .fits) (record { waiting = small; vectors = h .fits .queue .vectors; coded = h .fits .queue .coded; codes = h .fits .queue .codes });
-        bytes = value-put h 9 (lit< tt) (number 1) (s .queue .waiting) x refl e;
+        bytes = value-put h Part.WAITING (lit< tt) (number 1) (s .queue .waiting) x refl e;
       }
 
   vectors-fit : (vs : List ℕ) → Numbers 64 1 vs → Fitting (withQueue s (withVectors (s .queue) vs))
@@ -179,7 +180,7 @@ module _ {b : List ℕ} {s : Session} (h : Spells b s) where
   with-vector i x known small e =
       record {
         fits = vectors-fit (set (s .queue .vectors) i x) (numbers-set i x (h .fits .queue .vectors) small);
-        bytes = element-put h 10 (lit< tt) (number 1) (s .queue .vectors) refl i x (rw (h .fits .queue .vectors .sized) known) (rw mul-one e);
+        bytes = element-put h Part.VECTORS (lit< tt) (number 1) (s .queue .vectors) refl i x (rw (h .fits .queue .vectors .sized) known) (rw mul-one e);
       }
 
   with-coded : {after : List ℕ} (x : ℕ) → Takes 8 x → after ≡ sets b Record.CODED (bytesOf 8 x) → Spells after (withQueue s (withCoded (s .queue) x))
@@ -187,7 +188,7 @@ module _ {b : List ℕ} {s : Session} (h : Spells b s) where
   with-coded x small e =
       record {
         fits = queue-fits (h .fits) (record { waiting = h .fits .queue .waiting; vectors = h .fits .queue .vectors; coded = small; codes = h .fits .queue .codes });
-        bytes = value-put h 11 (lit< tt) (number 8) (s .queue .coded) x refl e;
+        bytes = value-put h Part.CODED (lit< tt) (number 8) (s .queue .coded) x refl e;
       }
 
   with-code : {after : List ℕ} (i x : ℕ) → i < 64 → Takes 4 x → after ≡ sets b (Record.CODES + i * 4) (bytesOf 4 x)
@@ -196,7 +197,7 @@ module _ {b : List ℕ} {s : Session} (h : Spells b s) where
   with-code i x known small e =
       record {
         fits = codes-fit (set (s .queue .codes) i x) (numbers-set i x (h .fits .queue .codes) small);
-        bytes = element-put h 12 (lit< tt) (number 4) (s .queue .codes) refl i x (rw (h .fits .queue .codes .sized) known) e;
+        bytes = element-put h Part.CODES (lit< tt) (number 4) (s .queue .codes) refl i x (rw (h .fits .queue .codes .sized) known) e;
       }
 
   vectors-down : {after : List ℕ} (n : ℕ) → n < 64 → after ≡ down b Record.VECTORS 1 n (bytesOf 1 0) → Spells after (withQueue s (withVectors (s .queue) (shifted n 0 (s .queue .vectors))))
@@ -204,7 +205,7 @@ module _ {b : List ℕ} {s : Session} (h : Spells b s) where
   vectors-down n few e =
       record {
         fits = vectors-fit (shifted n 0 (s .queue .vectors)) (numbers-shifted n 0 few (h .fits .queue .vectors) (lit< tt));
-        bytes = run-shifted h 10 (lit< tt) (number 1) (s .queue .vectors) refl n 0 (rw (h .fits .queue .vectors .sized) few) (rw mul-one e);
+        bytes = run-shifted h Part.VECTORS (lit< tt) (number 1) (s .queue .vectors) refl n 0 (rw (h .fits .queue .vectors .sized) few) (rw mul-one e);
       }
 
   codes-down : {after : List ℕ} (n : ℕ) → n < 64 → after ≡ down b Record.CODES 4 (n * 4) (bytesOf 4 0) → Spells after (withQueue s (withCodes (s .queue) (shifted n 0 (s .queue .codes))))
@@ -212,7 +213,7 @@ module _ {b : List ℕ} {s : Session} (h : Spells b s) where
   codes-down n few e =
       record {
         fits = codes-fit (shifted n 0 (s .queue .codes)) (numbers-shifted n 0 few (h .fits .queue .codes) (lit< tt));
-        bytes = run-shifted h 12 (lit< tt) (number 4) (s .queue .codes) refl n 0 (rw (h .fits .queue .codes .sized) few) e;
+        bytes = run-shifted h Part.CODES (lit< tt) (number 4) (s .queue .codes) refl n 0 (rw (h .fits .queue .codes .sized) few) e;
       }
 
 -- ---- an accepted record, after one edit or several

@@ -13,7 +13,8 @@ use Rattle.record.specs.Fitting.{Fitting}
 use Rattle.record.proofs.Stores.{sets-append, sets-whole}
 use Rattle.record.proofs.Loops.{length-flatMap, flatMap-append, all-of}
 use Rattle.record.proofs.Parts.{total, from-part}
-use Rattle.record.proofs.RoundTrip.{sizes, lengths}
+use Rattle.record.proofs.PartNames.{sizes}
+use Rattle.record.proofs.RoundTrip.{lengths}
 
 module _ {A : Type 0} where
   sets-left : (a b us : List A) (m : ℕ) → m + length us ≤ length a → sets (a ++ b) m us ≡ sets a m us ++ b
@@ -82,7 +83,7 @@ pub record Spells (b : List ℕ) (s : Session) : Type 0 where
   pub fits : Fitting s
   pub bytes : b ≡ encodeOf s
 
-module _ {b : List ℕ} {s : Session} (h : Spells b s) (k : ℕ) (known : k < 16) where
+module _ {b : List ℕ} {s : Session} (h : Spells b s) (k : ℕ) (known : k < length sizes) where
   abbrev at : ℕ
   at = total (take k sizes)
 

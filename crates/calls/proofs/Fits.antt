@@ -23,7 +23,7 @@ use Rattle.vmcs.specs.Names.VmcsReadOnly32 as VmcsReadOnly32
 use Rattle.vmcs.specs.declared.Vmcs.{Vmcs}
 use Rattle.vmcs.specs.declared.Written.{Written as FieldsWritten}
 use Rattle.vmcs.proofs.FieldLaws.{fits-field}
-use Rattle.vcpu_session.specs.Session.{isUnlawful, Lawful}
+use Rattle.vcpu_session.specs.Session.{LAST_ENTRY, isUnlawful, Lawful}
 use Rattle.vcpu_session.specs.declared.Session.{Session}
 use Rattle.vcpu_events.specs.Queue as Queue
 use Rattle.vcpu_events.specs.Queue.{pushed, popped, frontOf}
@@ -131,7 +131,7 @@ module _ (s : Session) (h : Sound s) where
 
   -- ---- entry
 
-  progress-after-fits : (s .progress .entries ≡ 4294967295 → ⊥) → (a : Injection) → ProgressFits (progressAfter (s .progress) a)
+  progress-after-fits : (s .progress .entries ≡ LAST_ENTRY → ⊥) → (a : Injection) → ProgressFits (progressAfter (s .progress) a)
   unfolding progressAfter
   progress-after-fits n Empty = record { phase = lit< tt; entries = omega (arith, h .fits .progress .entries); held = h .fits .progress .held }
   progress-after-fits n Held =
@@ -158,7 +158,7 @@ module _ (s : Session) (h : Sound s) where
         codes = numbers-shifted _ 0 few (q .codes) (lit< tt);
       }
 
-  after-fits : (stack : ℕ) → stack < 2 ^ 64 → (s .progress .entries ≡ 4294967295 → ⊥) → (a : Injection) → Fitting (afterEntry s stack a)
+  after-fits : (stack : ℕ) → stack < 2 ^ 64 → (s .progress .entries ≡ LAST_ENTRY → ⊥) → (a : Injection) → Fitting (afterEntry s stack a)
   unfolding afterEntry
   after-fits stack w n a =
       let fields = vmcs-after-fits _ (stack-fits (s .vmcs) (s .progress .launched) stack w (h .fits .vmcs)) a in
@@ -169,7 +169,7 @@ module _ (s : Session) (h : Sound s) where
   entry-fits stack w =
       cond-all P (isUnlawful s) _ _ (λ _. h .fits)
       (λ _. cond-all P (not (eqb (s .progress .phase) 1)) _ _ (λ _. h .fits)
-      (λ _. cond-all P (eqb (s .progress .entries) 4294967295) _ _ (λ _. h .fits)
+      (λ _. cond-all P (eqb (s .progress .entries) LAST_ENTRY) _ _ (λ _. h .fits)
       (λ t. after-fits stack w (eqb-false _ _ t) (injectionOf (s .queue) (s .vmcs)))))
     where
       P : Entered → Type 0

@@ -1,12 +1,12 @@
 -- Each step leaves a lawful session lawful. Assumes nothing.
 use mathlib.Core.Path.{_≡_, refl}
 use mathlib.Core.Bool.{Bool, true, false, cond, not}
-use Prim.Native.Nat.{ℕ, _-_, _^_, _<_}
+use Prim.Native.Nat.{ℕ, _<_}
 use native.Mathlib.Omega.{arith}
 use lib.Dec.{eqb, leb, ltb}
 use borrow.Author.Tests.{leb-false}
 use Rattle.vcpu_session.specs.Phase as Phase
-use Rattle.vcpu_session.specs.Session.{isUnlawful, Lawful}
+use Rattle.vcpu_session.specs.Session.{LAST_ENTRY, isUnlawful, Lawful}
 use Rattle.vcpu_session.specs.declared.Session.{Session}
 use Rattle.vcpu_session.proofs.LawfulLaws.{lawful-alike, lawful-phase, lawful-queue}
 use Rattle.vcpu_events.specs.Queue.{answered, pushed, queueEvent, injectInterrupt}
@@ -68,4 +68,4 @@ unfolding entry
 keeps-entry stack s l =
     entry-test (isUnlawful s) 2 _ l (λ _.
     entry-test (not (eqb (s .progress .phase) Phase.READY)) 1 _ l (λ _.
-    entry-test (eqb (s .progress .entries) (2 ^ 32 - 1)) 22 _ l (λ _. after-entry-lawful s stack (injectionOf (s .queue) (s .vmcs)) l)))
+    entry-test (eqb (s .progress .entries) LAST_ENTRY) 22 _ l (λ _. after-entry-lawful s stack (injectionOf (s .queue) (s .vmcs)) l)))

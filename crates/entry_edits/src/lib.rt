@@ -3,8 +3,8 @@
 // Axvisor Team, Apache-2.0). Changed: the session is the bytes of a record, and the entry itself is the host's.
 ghost use mathlib.Core.Path.{_≡_};
 ghost use mathlib.Core.Bool.{true};
-ghost use Prim.Native.Nat.{ℕ, _-_, _^_, _<_};
-ghost use Rattle.vcpu_session.specs.Session.{withVmcs, withQueue};
+ghost use Prim.Native.Nat.{ℕ, _<_};
+ghost use Rattle.vcpu_session.specs.Session.{LAST_ENTRY, withVmcs, withQueue};
 ghost use Rattle.vcpu_events.specs.Queue.{frontOf};
 ghost use Rattle.vcpu_events.specs.Entry.{injectionOf, codeOf, withCode, withLength, injected, withStack, windowSet, vmcsAfter, queueAfter, afterEntry, entry};
 ghost use Rattle.record.specs.Codec.{sessionOf, acceptedOf};
@@ -161,7 +161,7 @@ fn pop_written(b: &mut [u8], injection: Injection)
 
 // The record after an accepted entry, which does `injection` with the front of the queue. The front is read before any byte is written.
 pub fn after_entry(b: &mut [u8], stack: u64, injection: Injection)
-    requires { ⌜ (acceptedOf (now b) ≡ true) × (sessionOf (now b) .progress .entries < 2 ^ 32 - 1) ⌝ }
+    requires { ⌜ (acceptedOf (now b) ≡ true) × (sessionOf (now b) .progress .entries < LAST_ENTRY) ⌝ }
     ensures { λ _. ⌜ Holds (now (b .exit)) (afterEntry (sessionOf (now (b .entry))) stack injection) ⌝ }
 {
     let p = record::progress_at(b);

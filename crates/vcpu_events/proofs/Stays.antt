@@ -1,11 +1,11 @@
 -- A refused step leaves the session as it was. Assumes nothing.
 use mathlib.Core.Path.{_≡_, refl}
 use mathlib.Core.Bool.{Bool, true, false, cond, not}
-use Prim.Native.Nat.{ℕ, _-_, _^_}
+use Prim.Native.Nat.{ℕ}
 use lib.Dec.{eqb, leb, ltb}
 use Rattle.vcpu_session.specs.declared.Session.{Session}
 use Rattle.vcpu_session.specs.Phase as Phase
-use Rattle.vcpu_session.specs.Session.{isUnlawful}
+use Rattle.vcpu_session.specs.Session.{LAST_ENTRY, isUnlawful}
 use Rattle.vcpu_events.specs.Queue.{answered, queueEvent, injectInterrupt}
 use Rattle.vcpu_events.specs.declared.Answered.{Answered}
 use Rattle.vcpu_events.specs.declared.Event.{Event}
@@ -61,7 +61,7 @@ pub entry-stays : (s : Session) (stack : ℕ) → (entry s stack .refusal ≡ 0 
 unfolding entry
 entry-stays s stack =
     let made : Entered = record { refusal = 0; resumed = s .progress .launched; injection = injectionOf (s .queue) (s .vmcs); session = afterEntry s stack (injectionOf (s .queue) (s .vmcs)) } in
-    go (isUnlawful s) (not (eqb (s .progress .phase) Phase.READY)) (eqb (s .progress .entries) (2 ^ 32 - 1)) made refl
+    go (isUnlawful s) (not (eqb (s .progress .phase) Phase.READY)) (eqb (s .progress .entries) LAST_ENTRY) made refl
   where
     go : (p q t : Bool) (made : Entered) → made .refusal ≡ 0 → (cond p (refusedEntry 2 s) (cond q (refusedEntry 1 s) (cond t (refusedEntry 22 s) made)) .refusal ≡ 0 → ⊥)
         → cond p (refusedEntry 2 s) (cond q (refusedEntry 1 s) (cond t (refusedEntry 22 s) made)) .session ≡ s

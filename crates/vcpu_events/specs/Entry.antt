@@ -1,5 +1,5 @@
 -- Injecting an event and entering the guest (document 01, "Events" and "Session"; SDM 3C, 25.8.3). Assumes nothing.
-use Prim.Native.Nat.{ℕ, _+_, _-_, _/_, _%_, _^_}
+use Prim.Native.Nat.{ℕ, _+_, _/_, _%_, _^_}
 use mathlib.Core.Bool.{Bool, true, false, cond, not, _&&_, _||_}
 use lib.Bits.{bitAnd, bitOr}
 use lib.Dec.{eqb, leb}
@@ -15,7 +15,7 @@ use Rattle.vmcs.specs.Names.VmcsHostNW as VmcsHostNW
 use Rattle.vmcs.specs.Names.VmcsReadOnly32 as VmcsReadOnly32
 use Rattle.vmcs.specs.declared.Vmcs.{Vmcs}
 use Rattle.vcpu_session.specs.Phase as Phase
-use Rattle.vcpu_session.specs.Session.{isUnlawful, withProgress, withVmcs, withQueue}
+use Rattle.vcpu_session.specs.Session.{LAST_ENTRY, isUnlawful, withProgress, withVmcs, withQueue}
 use Rattle.vcpu_session.specs.declared.Progress.{Progress}
 use Rattle.vcpu_session.specs.declared.Queue.{Queue}
 use Rattle.vcpu_session.specs.declared.Session.{Session}
@@ -104,12 +104,12 @@ afterEntry s stack injection =
 abbrev pub refusedEntry : ℕ → Session → Entered
 refusedEntry n s = record { refusal = n; resumed = false; injection = Empty; session = s }
 
--- 2: no record holds the session. 1: not ready. 22: the entry count is 2^32 - 1
+-- 2: no record holds the session. 1: not ready. 22: the entry count is `LAST_ENTRY`
 unfoldable pub entry : Session → ℕ → Entered
 entry s stack =
     cond (isUnlawful s) (refusedEntry 2 s)
     (cond (not (eqb (s .progress .phase) Phase.READY)) (refusedEntry 1 s)
-    (cond (eqb (s .progress .entries) (2 ^ 32 - 1)) (refusedEntry 22 s)
+    (cond (eqb (s .progress .entries) LAST_ENTRY) (refusedEntry 22 s)
     (record {
       refusal = 0;
       resumed = s .progress .launched;

@@ -2,8 +2,9 @@
 // Ported from x86_vcpu src/vmx/vcpu.rs and inject_event of src/vmx/vmcs.rs (Copyright 2025 The Axvisor Team, Apache-2.0). Changed: the queue
 // holds 64 events; what the Rust panics at is refused by a number; the entry itself is the host's.
 ghost use mathlib.Core.Path.{_≡_};
-ghost use Prim.Native.Nat.{_<_, _≤_, _-_, _^_};
+ghost use Prim.Native.Nat.{_<_, _≤_, _-_};
 ghost use Rattle.bits.specs.Words.{withBit};
+ghost use Rattle.vcpu_session.specs.Session.{LAST_ENTRY};
 ghost use Rattle.vcpu_events.specs.Entry.{isHeld, progressAfter};
 ghost use mathlib.Core.Bool.{cond};
 use vcpu_session::Phase;
@@ -75,7 +76,7 @@ pub fn is_held(vector: u8, rflags: u64, interruptibility: u32) -> bool
 
 // Running, launched, one entry more, and one held entry more where the event is held. The caller has tested 22.
 pub fn progress_after(p: Progress, injection: Injection) -> Progress
-    requires { ⌜ (p .entries < 2 ^ 32 - 1) × (p .held ≤ p .entries) ⌝ }
+    requires { ⌜ (p .entries < LAST_ENTRY) × (p .held ≤ p .entries) ⌝ }
     ensures { λ r. ⌜ r ≡ progressAfter p injection ⌝ }
 {
     let mut next = p;

@@ -19,6 +19,10 @@ use Rattle.vcpu_session.specs.declared.Session.{Session}
 abbrev pub VMX_PREEMPTION_TIMER_SET_VALUE : ℕ
 VMX_PREEMPTION_TIMER_SET_VALUE = 1000000
 
+-- the entry count at which no further entry is accepted (refusal 22)
+abbrev pub LAST_ENTRY : ℕ
+LAST_ENTRY = 0xFFFFFFFF
+
 abbrev pub noFixed : Fixed
 noFixed = record { fixed0 = 0; fixed1 = 0 }
 

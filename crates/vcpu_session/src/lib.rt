@@ -10,6 +10,9 @@ use vmcs::controls::Pair;
 // What the preemption timer is set to, at setup and where it has run out.
 pub const VMX_PREEMPTION_TIMER_SET_VALUE: u32 = 1_000_000;
 
+// The entry count at which no further entry is accepted (refusal 22).
+pub const LAST_ENTRY: u32 = 0xFFFF_FFFF;
+
 // The phases of a session, by document 01's names and numbers.
 pub struct Phase {}
 

@@ -38,13 +38,20 @@ enum {
     RFLAGS = 0x6820
 };
 
+/* The place of the entry controls among the kept pairs. */
+enum { ENTRY_PAIR = 4 };
+
+/* Offsets of the block: the bytes with bit 31 of the reason and of the interruption information, and a register. */
+enum { REASON_TOP = VCPU_REPORT_REASON + 3, INTERRUPTION_TOP = VCPU_REPORT_INTERRUPTION + 3 };
+#define REG_AT(i) (VCPU_REPORT_REGS + 8 * (i))
+
 /* ---- the model ---- */
 
 static const uint8_t *p; /* the block */
 
 static uint64_t reg(unsigned i)
 {
-    return get(p, VCPU_REPORT_REGS + 8 * i, 8);
+    return get(p, REG_AT(i), 8);
 }
 
 static uint32_t reason(void)
@@ -54,7 +61,7 @@ static uint32_t reason(void)
 
 static int failed(void)
 {
-    return p[VCPU_REPORT_REASON + 3] >> 7;
+    return p[REASON_TOP] >> 7;
 }
 
 static int apic(void)
@@ -101,7 +108,7 @@ static uint32_t model_number(const uint8_t *r)
 {
     uint32_t n = reason();
 
-    if (r[0] != VCPU_RUNNING)
+    if (r[R_PHASE] != VCPU_RUNNING)
         return 1;
     if (n > 64 || n == 35 || n == 38 || n == 42 || (failed() && n != 33 && n != 34 && n != 41))
         return 14;
@@ -109,7 +116,7 @@ static uint32_t model_number(const uint8_t *r)
         return 0;
     if (((get(p, VCPU_REPORT_CR0, 8) ^ field(r, CR0)) & field(r, CR0_MASK)) || ((get(p, VCPU_REPORT_CR4, 8) ^ field(r, CR4)) & field(r, CR4_MASK)))
         return 15;
-    if (n == 1 && (!(p[VCPU_REPORT_INTERRUPTION + 3] >> 7) || (p[VCPU_REPORT_INTERRUPTION + 1] & 7) == 1))
+    if (n == 1 && (!(p[INTERRUPTION_TOP] >> 7) || (p[VCPU_REPORT_INTERRUPTION + 1] & 7) == 1))
         return 16;
     if (n == 28 && !move_to(0) && !move_to(4))
         return 18;
@@ -119,7 +126,7 @@ static uint32_t model_number(const uint8_t *r)
         return 21;
     if (get(p, VCPU_REPORT_RIP, 8) > ~(uint64_t)0 - advance())
         return 17;
-    if (enters_long_mode() && !(r[VCPU_OFFSET_PAIRS + 4 * 8 + 4 + 1] >> 1 & 1))
+    if (enters_long_mode() && !(get(r, R_ALLOWED1(ENTRY_PAIR), 4) >> 9 & 1))
         return 8;
     return 0;
 }
@@ -151,7 +158,7 @@ static void store(uint8_t *r)
 
     for (i = 0; i < sizeof parts / sizeof parts[0]; i++)
         set_field(r, parts[i].field, get(p, parts[i].at, parts[i].size));
-    memcpy(r + VCPU_OFFSET_REGS, p + VCPU_REPORT_REGS, 128);
+    memcpy(r + R_REGS, p + VCPU_REPORT_REGS, L_REGS);
     set_field(r, ENTRY_INFO, field(r, ENTRY_INFO) & 0x7FFFFFFF);
 }
 
@@ -177,15 +184,15 @@ static void model_cpuid(uint8_t *r)
     } else if (leaf == 0x40000001) {
         memset(w, 0, sizeof w);
     }
-    put(r, VCPU_OFFSET_REGS, 8, w[0]);
-    put(r, VCPU_OFFSET_REGS + 24, 8, w[1]);
-    put(r, VCPU_OFFSET_REGS + 8, 8, w[2]);
-    put(r, VCPU_OFFSET_REGS + 16, 8, w[3]);
+    put(r, R_REG(0), 8, w[0]);
+    put(r, R_REG(3), 8, w[1]);
+    put(r, R_REG(1), 8, w[2]);
+    put(r, R_REG(2), 8, w[3]);
 }
 
 static void model_cr(uint8_t *r)
 {
-    unsigned at = move_to(0) ? VCPU_OFFSET_CR0 : VCPU_OFFSET_CR4;
+    unsigned at = move_to(0) ? R_CR0 : R_CR4;
     uint64_t must1 = get(r, at, 8), must0 = get(r, at + 8, 8), value = moved();
 
     if (move_to(0)) {
@@ -198,7 +205,7 @@ static void model_cr(uint8_t *r)
     set_field(r, move_to(0) ? CR0_SHADOW : CR4_SHADOW, value);
     set_field(r, move_to(0) ? CR0_MASK : CR4_MASK, must1 | ~must0);
     if (enters_long_mode()) {
-        uint32_t m0 = (uint32_t)get(r, VCPU_OFFSET_PAIRS + 32, 4), m1 = (uint32_t)get(r, VCPU_OFFSET_PAIRS + 36, 4);
+        uint32_t m0 = (uint32_t)get(r, R_ALLOWED0(ENTRY_PAIR), 4), m1 = (uint32_t)get(r, R_ALLOWED1(ENTRY_PAIR), 4);
         uint32_t old = (uint32_t)field(r, ENTRY_CONTROLS);
 
         set_field(r, EFER, (field(r, EFER) & 0xFD01) | 0x400);
@@ -236,7 +243,7 @@ static void model_msr(uint8_t *r, uint64_t *w)
     if (write)
         w[2] = reg(2) << 32 | (uint32_t)reg(0);
     else if (apic())
-        r[0] = VCPU_WAITING;
+        r[R_PHASE] = VCPU_WAITING;
 }
 
 static void model(uint8_t *r, uint64_t *w)
@@ -245,12 +252,12 @@ static void model(uint8_t *r, uint64_t *w)
     if (failed()) {
         set_field(r, EXIT_REASON, get(p, VCPU_REPORT_REASON, 4));
         set_field(r, QUALIFICATION, get(p, VCPU_REPORT_QUALIFICATION, 8));
-        r[0] = VCPU_ENDED;
+        r[R_PHASE] = VCPU_ENDED;
         w[0] = VCPU_ANSWER_FAIL_ENTRY;
         return;
     }
     store(r);
-    r[0] = VCPU_READY;
+    r[R_PHASE] = VCPU_READY;
     switch (reason()) {
     case 1:
         w[0] = VCPU_ANSWER_EXTERNAL_INTERRUPT;
@@ -299,10 +306,10 @@ static void any_record(uint8_t *r)
 
     for (i = 0; i < N; i++)
         r[i] = (uint8_t)(any() >> 24);
-    r[0] = (uint8_t)(below(16) ? VCPU_RUNNING : below(6));
-    r[1] = (uint8_t)(below(64) ? below(2) : 2);
-    put(r, VCPU_OFFSET_HELD, 4, get(r, VCPU_OFFSET_ENTRIES, 4) / 2);
-    r[VCPU_OFFSET_WAITING] = (uint8_t)below(65);
+    r[R_PHASE] = (uint8_t)(below(16) ? VCPU_RUNNING : below(6));
+    r[R_LAUNCHED] = (uint8_t)(below(64) ? below(2) : 2);
+    put(r, R_HELD, L_HELD, get(r, R_ENTRIES, L_ENTRIES) / 2);
+    r[R_WAITING] = (uint8_t)below(EVENTS + 1);
 }
 
 static uint64_t few(const uint64_t *list, unsigned n)
@@ -321,9 +328,9 @@ static void any_block(uint8_t *b, const uint8_t *r)
     for (i = 0; i < BLOCK; i++)
         b[i] = (uint8_t)(any() >> 24);
     put(b, VCPU_REPORT_REASON, 2, n);
-    b[VCPU_REPORT_REASON + 3] &= (uint8_t)((n == 33 || n == 34 || n == 41) && below(2) ? 0xFF : below(32) ? 0x7F : 0xFF);
-    put(b, VCPU_REPORT_REGS, 8, few(leaves, 9));
-    put(b, VCPU_REPORT_REGS + 8, 8, few(msrs, 8));
+    b[REASON_TOP] &= (uint8_t)((n == 33 || n == 34 || n == 41) && below(2) ? 0xFF : below(32) ? 0x7F : 0xFF);
+    put(b, REG_AT(0), 8, few(leaves, 9));
+    put(b, REG_AT(1), 8, few(msrs, 8));
     put(b, VCPU_REPORT_QUALIFICATION, 8, few(quals, 14));
     put(b, VCPU_REPORT_RIP, 8, below(8) ? any() >> below(60) : ~(uint64_t)0 - below(260));
     if (below(8)) {
@@ -333,7 +340,7 @@ static void any_block(uint8_t *b, const uint8_t *r)
         put(b, VCPU_REPORT_CR4, 8, (any() & ~m4) | (field(r, CR4) & m4));
     }
     if (below(4))
-        b[VCPU_REPORT_INTERRUPTION + 3] |= 0x80;
+        b[INTERRUPTION_TOP] |= 0x80;
     if (below(4) == 0)
         put(b, VCPU_REPORT_CPUID_EAX, 4, 0);
 }
@@ -405,11 +412,11 @@ static void header_numbers(void)
     CHECK(told(12, VCPU_REPORT_CR0, 8, field(r, CR0) ^ 0x20) == VCPU_REFUSED_OWNED_BITS);
     CHECK(told(1, VCPU_REPORT_INTERRUPTION, 4, 0x31) == VCPU_REFUSED_INTERRUPT);
     CHECK(told(28, VCPU_REPORT_QUALIFICATION, 8, 0x10) == VCPU_REFUSED_CR_ACCESS);
-    CHECK(told(55, VCPU_REPORT_REGS + 8, 8, 1) == VCPU_REFUSED_XCR);
-    CHECK(told(55, VCPU_REPORT_REGS + 8, 8, 0) == VCPU_REFUSED_XCR0);
+    CHECK(told(55, REG_AT(1), 8, 1) == VCPU_REFUSED_XCR);
+    CHECK(told(55, REG_AT(1), 8, 0) == VCPU_REFUSED_XCR0);
     CHECK(told(44, VCPU_REPORT_RSP, 8, 0) == VCPU_REFUSED_APIC_ACCESS);
     CHECK(told(10, VCPU_REPORT_RIP, 8, ~(uint64_t)0) == VCPU_REFUSED_SUM);
-    CHECK(told(28, VCPU_REPORT_REGS, 8, 0x80000000) == VCPU_REFUSED_SET);
+    CHECK(told(28, REG_AT(0), 8, 0x80000000) == VCPU_REFUSED_SET);
     CHECK(vcpu_exit_report(r, N, block, BLOCK - 1, answer) == VCPU_REFUSED_BYTES);
     CHECK(told(12, VCPU_REPORT_RSP, 8, 0) == 0 && answer[0] == VCPU_ANSWER_HALT);
     CHECK(told(12, VCPU_REPORT_RSP, 8, 0) == VCPU_REFUSED_PHASE);

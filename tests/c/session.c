@@ -12,38 +12,38 @@
 
 static uint32_t model_push(uint8_t *r, uint8_t vector, uint8_t coded, uint32_t code)
 {
-    unsigned at = r[1068];
+    unsigned at = r[R_WAITING];
 
-    if (at >= 64)
+    if (at >= EVENTS)
         return 13;
-    r[1069 + at] = vector;
-    r[1133 + at / 8] = (uint8_t)((r[1133 + at / 8] & ~(1u << at % 8)) | (unsigned)coded << at % 8);
-    put(r, 1141 + 4 * at, 4, coded ? code : 0);
-    r[1068]++;
+    r[R_VECTORS + at] = vector;
+    r[R_CODED + at / 8] = (uint8_t)((r[R_CODED + at / 8] & ~(1u << at % 8)) | (unsigned)coded << at % 8);
+    put(r, R_CODE(at), 4, coded ? code : 0);
+    r[R_WAITING]++;
     return 0;
 }
 
 static uint32_t model_entry(uint8_t *r, uint64_t stack, uint8_t *resumed, uint8_t *event)
 {
     static const uint8_t codes[] = {8, 10, 11, 12, 13, 14, 17};
-    unsigned v = r[1069], type, code = 0, left;
+    unsigned v = r[R_VECTORS], type, code = 0, left;
 
-    if (r[0] != VCPU_READY)
+    if (r[R_PHASE] != VCPU_READY)
         return 1;
-    if (get(r, 2, 4) == 0xFFFFFFFF)
+    if (get(r, R_ENTRIES, L_ENTRIES) == 0xFFFFFFFF)
         return 22;
-    *resumed = r[1];
-    if (!r[1])
+    *resumed = r[R_LAUNCHED];
+    if (!r[R_LAUNCHED])
         set_field(r, 0x6C14, stack);
-    r[0] = VCPU_RUNNING;
-    r[1] = 1;
-    put(r, 2, 4, get(r, 2, 4) + 1);
+    r[R_PHASE] = VCPU_RUNNING;
+    r[R_LAUNCHED] = 1;
+    put(r, R_ENTRIES, L_ENTRIES, get(r, R_ENTRIES, L_ENTRIES) + 1);
     *event = VCPU_EVENT_NONE;
-    if (r[1068] == 0)
+    if (r[R_WAITING] == 0)
         return 0;
     if (v >= 32 && (!(field(r, 0x6820) >> 9 & 1) || field(r, 0x4824) != 0)) {
         *event = VCPU_EVENT_HELD;
-        put(r, 6, 4, get(r, 6, 4) + 1);
+        put(r, R_HELD, L_HELD, get(r, R_HELD, L_HELD) + 1);
         set_field(r, 0x4002, field(r, 0x4002) | 4);
         return 0;
     }
@@ -51,17 +51,17 @@ static uint32_t model_entry(uint8_t *r, uint64_t stack, uint8_t *resumed, uint8_
     type = v == 1 ? 5 : v == 2 ? 2 : v == 3 || v == 4 ? 6 : v <= 20 ? 3 : v <= 31 ? 7 : 0;
     if (memchr(codes, (int)v, sizeof codes)) {
         code = 1;
-        set_field(r, 0x4018, r[1133] & 1 ? get(r, 1141, 4) : field(r, 0x4406));
+        set_field(r, 0x4018, r[R_CODED] & 1 ? get(r, R_CODE(0), 4) : field(r, 0x4406));
     }
     if (type == 4 || type == 5 || type == 6)
         set_field(r, 0x401A, field(r, 0x440C));
     set_field(r, 0x4016, 0x80000000u | code << 11 | type << 8 | v);
-    left = --r[1068];
-    memmove(r + 1069, r + 1070, left);
-    r[1069 + left] = 0;
-    put(r, 1133, 8, get(r, 1133, 8) >> 1);
-    memmove(r + 1141, r + 1145, 4 * left);
-    put(r, 1141 + 4 * left, 4, 0);
+    left = --r[R_WAITING];
+    memmove(r + R_VECTORS, r + R_VECTORS + 1, left);
+    r[R_VECTORS + left] = 0;
+    put(r, R_CODED, L_CODED, get(r, R_CODED, L_CODED) >> 1);
+    memmove(r + R_CODE(0), r + R_CODE(1), 4 * left);
+    put(r, R_CODE(left), 4, 0);
     return 0;
 }
 
@@ -94,14 +94,14 @@ static void random_lawful(uint8_t *r)
 
     for (i = 0; i < N; i++)
         r[i] = (uint8_t)any();
-    r[0] = (uint8_t)(below(2) ? VCPU_READY : below(5));
-    r[1] = (uint8_t)below(2);
-    put(r, 2, 4, entries);
-    put(r, 6, 4, entries / (1 + below(5)));
-    r[1068] = (uint8_t)(below(4) ? below(4) : 60 + below(5));
-    for (i = 0; i < 64; i++)
+    r[R_PHASE] = (uint8_t)(below(2) ? VCPU_READY : below(5));
+    r[R_LAUNCHED] = (uint8_t)below(2);
+    put(r, R_ENTRIES, L_ENTRIES, entries);
+    put(r, R_HELD, L_HELD, entries / (1 + below(5)));
+    r[R_WAITING] = (uint8_t)(below(4) ? below(4) : EVENTS - 4 + below(5));
+    for (i = 0; i < EVENTS; i++)
         if (below(2))
-            r[1069 + i] = (uint8_t)below(40);
+            r[R_VECTORS + i] = (uint8_t)below(40);
     if (below(2))
         set_field(r, 0x4824, 0);
 }
@@ -117,7 +117,7 @@ static size_t bytes(uint8_t *r)
             r[i] = (uint8_t)any();
     if (kind == 1 || kind == 2)
         for (i = 0; i <= below(3); i++)
-            r[below(3) ? below(N) : below(10)] = (uint8_t)any();
+            r[below(3) ? below(N) : below(R_REGS)] = (uint8_t)any();
     if (kind == 3 && below(2))
         return below(2) ? N - 1 : N + 1;
     return N;
@@ -150,14 +150,14 @@ static uint32_t one(unsigned f, uint8_t *r, size_t length)
 
         n = vcpu_queue_event(r, length, (uint8_t)x, coded, (uint32_t)y);
         if (ok && coded <= 1)
-            k = m[0] == VCPU_ENDED ? 1 : model_push(m, (uint8_t)x, coded, (uint32_t)y);
+            k = m[R_PHASE] == VCPU_ENDED ? 1 : model_push(m, (uint8_t)x, coded, (uint32_t)y);
         break;
     }
     case 1:
         x = below(8) ? x % 257 : x;
         n = vcpu_inject_interrupt(r, length, x);
         if (ok)
-            k = m[0] == VCPU_ENDED ? 1 : x == 0 || x > 255 ? 12 : model_push(m, (uint8_t)x, 0, 0);
+            k = m[R_PHASE] == VCPU_ENDED ? 1 : x == 0 || x > 255 ? 12 : model_push(m, (uint8_t)x, 0, 0);
         break;
     case 2:
         after = before;
@@ -169,14 +169,14 @@ static uint32_t one(unsigned f, uint8_t *r, size_t length)
         break;
     case 3:
         if (below(2))
-            r[0] = m[0] = VCPU_WAITING, ok = lawful(r, length);
+            r[R_PHASE] = m[R_PHASE] = VCPU_WAITING, ok = lawful(r, length);
         n = vcpu_apic_value(r, length, x);
         if (ok) {
-            k = m[0] == VCPU_WAITING ? 0 : 1;
+            k = m[R_PHASE] == VCPU_WAITING ? 0 : 1;
             if (!k) {
-                put(m, 10, 8, x & 0xFFFFFFFF);
-                put(m, 26, 8, x >> 32);
-                m[0] = VCPU_READY;
+                put(m, R_REG(0), 8, x & 0xFFFFFFFF);
+                put(m, R_REG(2), 8, x >> 32);
+                m[R_PHASE] = VCPU_READY;
             }
         }
         break;
@@ -208,9 +208,9 @@ static uint32_t one(unsigned f, uint8_t *r, size_t length)
         if (ok) {
             k = x == 4 || x > 15 ? 23 : 0;
             if (!k && f == 6)
-                w = get(m, 10 + 8 * (unsigned)x, 8);
+                w = get(m, R_REG((unsigned)x), 8);
             if (!k && f == 7)
-                put(m, 10 + 8 * (unsigned)x, 8, y);
+                put(m, R_REG((unsigned)x), 8, y);
         }
         CHECK(v == w);
         break;
@@ -221,7 +221,8 @@ static uint32_t one(unsigned f, uint8_t *r, size_t length)
         n = vcpu_get_counts(r, length, &phase, &launched, &waiting, &entries, &held);
         if (ok)
             k = 0;
-        CHECK(ok ? phase == m[0] && launched == m[1] && waiting == m[1068] && entries == get(m, 2, 4) && held == get(m, 6, 4)
+        CHECK(ok ? phase == m[R_PHASE] && launched == m[R_LAUNCHED] && waiting == m[R_WAITING] && entries == get(m, R_ENTRIES, L_ENTRIES) &&
+                       held == get(m, R_HELD, L_HELD)
                  : phase == 9 && launched == 9 && waiting == 99 && entries == 999 && held == 999);
         break;
     }
@@ -277,8 +278,8 @@ static void many(unsigned long calls)
         made[f]++;
         /* one call in four goes on with the record that the last such call left */
         if (below(4) == 0) {
-            if (f == 2 && kept[0] == VCPU_RUNNING)
-                kept[0] = VCPU_READY;
+            if (f == 2 && kept[R_PHASE] == VCPU_RUNNING)
+                kept[R_PHASE] = VCPU_READY;
             accepted[f] += one(f, kept, N) == 0;
             if (below(1000) == 0)
                 random_lawful(kept);
@@ -292,15 +293,13 @@ static void many(unsigned long calls)
     }
 }
 
-/* The offsets that the header publishes are those of the model, which every call above is compared with. */
+/* The offsets and numbers that the header publishes are those of the model, which every call above is compared with; so are the offsets of fields.h. */
 static void offsets(void)
 {
-    CHECK(VCPU_OFFSET_PHASE == 0 && VCPU_OFFSET_LAUNCHED == 1 && VCPU_OFFSET_ENTRIES == 2 && VCPU_OFFSET_HELD == 6);
-    CHECK(VCPU_OFFSET_REGS == 10 && VCPU_OFFSET_W16 == fields[0].offset && VCPU_OFFSET_W32 == fields[17].offset);
-    CHECK(VCPU_OFFSET_W64 == fields[67].offset && VCPU_OFFSET_NATURAL == fields[108].offset);
-    CHECK(VCPU_OFFSET_WAITING == 1068 && VCPU_OFFSET_VECTORS == 1069 && VCPU_OFFSET_CODED == 1133 && VCPU_OFFSET_CODES == 1141);
-    CHECK(VCPU_OFFSET_PAIRS == 1141 + 256 && VCPU_OFFSET_CR0 == VCPU_OFFSET_PAIRS + 40 && VCPU_OFFSET_CR4 == VCPU_OFFSET_CR0 + 16);
-    CHECK(VCPU_RECORD_LENGTH == VCPU_OFFSET_CR4 + 16);
+#define SAME(name, length) CHECK(VCPU_OFFSET_##name == R_##name);
+    RECORD(SAME)
+    CHECK(VCPU_RECORD_LENGTH == N);
+    CHECK(fields[0].offset == R_W16 && fields[17].offset == R_W32 && fields[67].offset == R_W64 && fields[108].offset == R_NATURAL);
     CHECK(VCPU_REFUSED_PHASE == 1 && VCPU_REFUSED_BYTES == 2 && VCPU_REFUSED_ENCODING == 3 && VCPU_REFUSED_READ_ONLY == 4);
     CHECK(VCPU_REFUSED_WIDTH == 5 && VCPU_REFUSED_VECTOR == 12 && VCPU_REFUSED_FULL == 13 && VCPU_REFUSED_SUM == 17);
     CHECK(VCPU_REFUSED_COUNT == 22 && VCPU_REFUSED_INDEX == 23);
@@ -314,31 +313,31 @@ static void edges(void)
 
     memset(r, 0xFF, sizeof r);
     memset(a, 0xFF, sizeof a);
-    CHECK(vcpu_new(r, N, a, sizeof a, b, sizeof b, m, sizeof m - 1) == VCPU_REFUSED_BYTES && r[0] == 0xFF && a[0] == 0xFF);
-    CHECK(vcpu_new(r, N - 1, a, sizeof a, b, sizeof b, m, sizeof m) == VCPU_REFUSED_BYTES && r[0] == 0xFF && a[0] == 0xFF);
+    CHECK(vcpu_new(r, N, a, sizeof a, b, sizeof b, m, sizeof m - 1) == VCPU_REFUSED_BYTES && r[R_PHASE] == 0xFF && a[0] == 0xFF);
+    CHECK(vcpu_new(r, N - 1, a, sizeof a, b, sizeof b, m, sizeof m) == VCPU_REFUSED_BYTES && r[R_PHASE] == 0xFF && a[0] == 0xFF);
     CHECK(vcpu_new(r, N, a, sizeof a, b, sizeof b, m, sizeof m) == 0);
     CHECK(!memcmp(r, zero, N) && !memcmp(a, zero, sizeof a) && !memcmp(b, zero, sizeof b) && !memcmp(m, zero, sizeof m));
     CHECK(vcpu_entry(r, N, 0, &resumed, &event) == VCPU_REFUSED_PHASE);
     /* the 64th event passes, the 65th does not */
-    for (i = 0; i < 64; i++)
+    for (i = 0; i < EVENTS; i++)
         CHECK(vcpu_queue_event(r, N, 32, 0, 7) == 0);
     CHECK(vcpu_queue_event(r, N, 32, 0, 7) == VCPU_REFUSED_FULL);
     CHECK(vcpu_inject_interrupt(r, N, 256) == VCPU_REFUSED_VECTOR && vcpu_inject_interrupt(r, N, 0) == VCPU_REFUSED_VECTOR);
     /* with IF clear, vector 32 is held and 31 goes in */
-    r[0] = VCPU_READY;
-    CHECK(vcpu_entry(r, N, 0x1234, &resumed, &event) == 0 && resumed == 0 && event == VCPU_EVENT_HELD && r[1068] == 64);
-    r[0] = VCPU_READY;
-    r[1069] = 31;
-    CHECK(vcpu_entry(r, N, 0x5678, &resumed, &event) == 0 && resumed == 1 && event == VCPU_EVENT_WRITTEN && r[1068] == 63);
-    CHECK(field(r, 0x6C14) == 0x1234 && field(r, 0x4016) == 0x8000071F && get(r, 2, 4) == 2 && get(r, 6, 4) == 1);
+    r[R_PHASE] = VCPU_READY;
+    CHECK(vcpu_entry(r, N, 0x1234, &resumed, &event) == 0 && resumed == 0 && event == VCPU_EVENT_HELD && r[R_WAITING] == EVENTS);
+    r[R_PHASE] = VCPU_READY;
+    r[R_VECTORS] = 31;
+    CHECK(vcpu_entry(r, N, 0x5678, &resumed, &event) == 0 && resumed == 1 && event == VCPU_EVENT_WRITTEN && r[R_WAITING] == EVENTS - 1);
+    CHECK(field(r, 0x6C14) == 0x1234 && field(r, 0x4016) == 0x8000071F && get(r, R_ENTRIES, L_ENTRIES) == 2 && get(r, R_HELD, L_HELD) == 1);
     /* the count of entries at its end */
-    r[0] = VCPU_READY;
-    put(r, 2, 4, 0xFFFFFFFE);
+    r[R_PHASE] = VCPU_READY;
+    put(r, R_ENTRIES, L_ENTRIES, 0xFFFFFFFE);
     CHECK(vcpu_entry(r, N, 0, &resumed, &event) == 0);
-    r[0] = VCPU_READY;
+    r[R_PHASE] = VCPU_READY;
     CHECK(vcpu_entry(r, N, 0, &resumed, &event) == VCPU_REFUSED_COUNT);
     /* an ended session takes no event */
-    r[0] = VCPU_ENDED;
+    r[R_PHASE] = VCPU_ENDED;
     CHECK(vcpu_queue_event(r, N, 3, 1, 7) == VCPU_REFUSED_PHASE);
     printf("session: edges as document 01 says\n");
 }

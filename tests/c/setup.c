@@ -10,8 +10,11 @@
 
 enum { BLOCK = VCPU_SETUP_LENGTH, FRAME = VCPU_FRAME_LENGTH };
 
-/* Offsets of the block that are used twice. */
-enum { MSRS = VCPU_SETUP_MSRS, FLAGS = VCPU_SETUP_RDTSCP };
+/* Offsets of the block that are used often. */
+enum { MSRS = VCPU_SETUP_MSRS, RDTSCP = VCPU_SETUP_RDTSCP, INVPCID = VCPU_SETUP_INVPCID, XSAVES = VCPU_SETUP_XSAVES };
+
+/* Where the MSR bitmaps have the half that intercepts writes. */
+enum { WRITES = 2048 };
 
 /* The places of the MSRs in the block. */
 enum { PIN, PRIMARY, EXIT, ENTRY, CR0_0, CR0_1, CR4_0, CR4_1, SECONDARY, TRUE_PIN, TRUE_PRIMARY, TRUE_EXIT, TRUE_ENTRY, MSR_COUNT };
@@ -37,7 +40,7 @@ static uint32_t set_of(const uint8_t *block, unsigned k)
 
     if (k != 2)
         return set[k];
-    return set[2] | (uint32_t)block[FLAGS] << 3 | (uint32_t)block[FLAGS + 1] << 12 | (uint32_t)block[FLAGS + 2] << 20;
+    return set[2] | (uint32_t)block[RDTSCP] << 3 | (uint32_t)block[INVPCID] << 12 | (uint32_t)block[XSAVES] << 20;
 }
 
 static uint32_t clear_of(unsigned k)
@@ -49,7 +52,7 @@ static uint32_t model_number(const uint8_t *r, const uint8_t *block)
 {
     unsigned k;
 
-    if (r[0] != VCPU_FRESH)
+    if (r[R_PHASE] != VCPU_FRESH)
         return 1;
     for (k = 0; k < 5; k++)
         if ((uint32_t)msr(block, words[k].pair) & ~(uint32_t)(msr(block, words[k].pair) >> 32))
@@ -76,8 +79,8 @@ static void model_words(uint8_t *r, const uint8_t *block)
         uint32_t old = (uint32_t)msr(block, words[k].old), set = set_of(block, k), clear = clear_of(k);
 
         set_field(r, words[k].field, m0 | set | (old & ~m0 & m1 & ~set & ~clear));
-        put(r, VCPU_OFFSET_PAIRS + 8 * k, 4, m0);
-        put(r, VCPU_OFFSET_PAIRS + 8 * k + 4, 4, m1);
+        put(r, R_ALLOWED0(k), 4, m0);
+        put(r, R_ALLOWED1(k), 4, m1);
     }
 }
 
@@ -92,10 +95,10 @@ static void model_crs(uint8_t *r, const uint8_t *block)
     set_field(r, 0x6804, (vmxe & msr(block, CR4_1)) | msr(block, CR4_0));
     set_field(r, 0x6006, vmxe);
     set_field(r, 0x6002, msr(block, CR4_0) | ~msr(block, CR4_1));
-    put(r, VCPU_OFFSET_CR0, 8, msr(block, CR0_0));
-    put(r, VCPU_OFFSET_CR0 + 8, 8, msr(block, CR0_1));
-    put(r, VCPU_OFFSET_CR4, 8, msr(block, CR4_0));
-    put(r, VCPU_OFFSET_CR4 + 8, 8, msr(block, CR4_1));
+    put(r, R_CR0, 8, msr(block, CR0_0));
+    put(r, R_CR0 + 8, 8, msr(block, CR0_1));
+    put(r, R_CR4, 8, msr(block, CR4_0));
+    put(r, R_CR4 + 8, 8, msr(block, CR4_1));
 }
 
 /* Fields that take a number of the block: encoding, offset, width. */
@@ -149,9 +152,9 @@ static void model_frames(uint8_t *a, uint8_t *m)
 {
     a[0x604 / 8] |= 1 << (0x604 % 8);
     m[0xE1 / 8] |= 1 << (0xE1 % 8);
-    m[2048 + 0xE1 / 8] |= 1 << (0xE1 % 8);
+    m[WRITES + 0xE1 / 8] |= 1 << (0xE1 % 8);
     memset(m + 0x800 / 8, 0xFF, 8);
-    memset(m + 2048 + 0x800 / 8, 0xFF, 8);
+    memset(m + WRITES + 0x800 / 8, 0xFF, 8);
 }
 
 /* ---- inputs ---- */
@@ -186,7 +189,7 @@ static void any_block(uint8_t *block)
 
     for (i = 0; i < BLOCK; i++)
         block[i] = (uint8_t)(any() >> 24);
-    for (i = FLAGS; i < BLOCK; i++)
+    for (i = RDTSCP; i <= XSAVES; i++)
         block[i] = (uint8_t)(below(64) ? below(2) : 2 + below(254));
     any_msrs(block);
 }
@@ -197,10 +200,10 @@ static void any_record(uint8_t *r)
 
     for (i = 0; i < N; i++)
         r[i] = (uint8_t)(any() >> 24);
-    r[0] = (uint8_t)(below(8) ? VCPU_FRESH : below(6));
-    r[1] = (uint8_t)(below(32) ? below(2) : 2);
-    put(r, VCPU_OFFSET_HELD, 4, below(32) ? get(r, VCPU_OFFSET_ENTRIES, 4) / 2 : any() & 0xFFFFFFFF);
-    r[VCPU_OFFSET_WAITING] = (uint8_t)below(66);
+    r[R_PHASE] = (uint8_t)(below(8) ? VCPU_FRESH : below(6));
+    r[R_LAUNCHED] = (uint8_t)(below(32) ? below(2) : 2);
+    put(r, R_HELD, L_HELD, below(32) ? get(r, R_ENTRIES, L_ENTRIES) / 2 : any() & 0xFFFFFFFF);
+    r[R_WAITING] = (uint8_t)below(EVENTS + 2);
 }
 
 /* ---- the calls ---- */
@@ -210,7 +213,7 @@ static unsigned long counts[10];
 
 static int flags_valid(void)
 {
-    return block[FLAGS] <= 1 && block[FLAGS + 1] <= 1 && block[FLAGS + 2] <= 1;
+    return block[RDTSCP] <= 1 && block[INVPCID] <= 1 && block[XSAVES] <= 1;
 }
 
 static void once(void)
@@ -232,7 +235,7 @@ static void once(void)
     memcpy(copies, frames, sizeof frames);
     model = !lawful(s, length) || blocks != BLOCK || !flags_valid() || a != FRAME ? 2 : model_number(s, block);
     if (model == 0) {
-        s[0] = VCPU_READY;
+        s[R_PHASE] = VCPU_READY;
         model_words(s, block);
         model_crs(s, block);
         model_fields(s, block);
@@ -270,11 +273,11 @@ static void listed(void)
 
     plain_block();
     memset(r, 0, N);
-    for (i = VCPU_OFFSET_W16; i < VCPU_OFFSET_WAITING; i++)
+    for (i = R_W16; i < R_WAITING; i++)
         r[i] = (uint8_t)(any() >> 24);
     memcpy(was, r, N);
     memcpy(s, r, N);
-    for (i = VCPU_OFFSET_W16; i < VCPU_OFFSET_WAITING; i++)
+    for (i = R_W16; i < R_WAITING; i++)
         s[i] = (uint8_t)~r[i];
     CHECK(vcpu_setup(r, N, block, BLOCK, frames[0], FRAME, frames[1], FRAME, frames[2], FRAME) == 0);
     CHECK(vcpu_setup(s, N, block, BLOCK, frames[0], FRAME, frames[1], FRAME, frames[2], FRAME) == 0);

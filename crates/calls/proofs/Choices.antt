@@ -3,11 +3,6 @@ use mathlib.Core.Path.{_≡_, refl}
 use mathlib.Core.Bool.{Bool, true, false, cond, false≢true}
 use Rattle.calls.specs.Reference.{choose}
 
--- what holds of each choice, under its test, holds of the choice
-pub cond-all {ℓ} : {A : Type ℓ} (P : A → Type 0) (t : Bool) (a b : A) → (t ≡ true → P a) → (t ≡ false → P b) → P (cond t a b)
-cond-all P true a b p q = p refl
-cond-all P false a b p q = q refl
-
 pub impossible : {A : Type 0} → false ≡ true → A
 impossible e = absurd (false≢true e)
 

@@ -6,13 +6,13 @@ use mathlib.Core.List.{List}
 use native.Mathlib.Omega.{arith}
 use lib.Dec.{eqb}
 use lib.ListN.{length}
+use Rattle.bits.proofs.Tells.{cond-all}
 use Rattle.record.specs.Record as Record
 use Rattle.call_specs.specs.Records.{EntryCall, FramesCall, newCall}
 use Rattle.vcpu_events.specs.declared.Injection.the-variants.{Empty}
 use Rattle.call_specs.specs.ReportCall.{ReportCall}
 use Rattle.calls.specs.Calls.{plain, framed, newRecord, isRefused}
 use Rattle.calls.specs.Contracts.{Contracts}
-use Rattle.calls.proofs.Choices.{cond-all}
 use Rattle.calls.proofs.Records.{entry-results, report-results}
 
 new-record : (bytes x y z : List ℕ) → newCall bytes x y z .refusal ≡ 0 → newCall bytes x y z .bytes ≡ newRecord

@@ -10,12 +10,13 @@ use lib.Dec.{eqb, lit<}
 use lib.ListN.{length, getD, drop, length-append, length-drop}
 use borrow.Author.Tests.{eq-eqb, ne-eqb, le-leb}
 use Rattle.bits.specs.Refuses.{Refuses}
+use Rattle.bits.proofs.Tells.{cond-all}
 use Rattle.vmcs.specs.Field.{valueOf}
 use Rattle.vmcs.specs.Names.VmcsHostNW as VmcsHostNW
 use Rattle.vmcs.specs.Names.VmcsReadOnly32 as VmcsReadOnly32
 use Rattle.vmcs.specs.Writes.{Sized}
 use Rattle.vmcs.specs.declared.Vmcs.{Vmcs}
-use Rattle.vcpu_session.specs.Session.{newSession, isUnlawful}
+use Rattle.vcpu_session.specs.Session.{LAST_ENTRY, newSession, isUnlawful}
 use Rattle.vcpu_session.specs.declared.Session.{Session}
 use Rattle.vcpu_events.specs.Queue.{frontOf}
 use Rattle.vcpu_events.specs.Entry as Entry
@@ -32,7 +33,7 @@ use Rattle.calls.specs.Reference.{types, Call, entry, WellTyped, AllWell
 use Rattle.calls.specs.Calls as Calls
 use Rattle.calls.specs.Calls.{stepOf, newRecord, after, loggedOf, historyOf, isRefused, Logged, fed, moveOf, movesOf, tallyOf, written, eventOf, waitingOf, wordsOf, viewOf}
 use Rattle.calls.specs.DemandThree.{Answers, Wrote, Launches, WaitLaw, isWritten, Permits, Unwritten, judgedFields, acceptedSetup, WholeList}
-use Rattle.calls.proofs.Choices.{cond-all, impossible, choose-yes, choose-no}
+use Rattle.calls.proofs.Choices.{impossible, choose-yes, choose-no}
 use Rattle.calls.proofs.WordBits.{tabled}
 use Rattle.calls.proofs.Fields.{put-own, same-stack, same-window, same-injected, injected-word, injected-code, injected-long}
 use Rattle.calls.proofs.Sessions.{sessionStep, next, sessionAfter, sessionLogged, sessionLog, Sound, sound-sized}
@@ -55,7 +56,7 @@ module _ (s : Session) (stack : ℕ) (P : Entered → Type 0) where
   by-entry refused done =
       cond-all P (isUnlawful s) _ _ (λ _. refused 2 refl)
       (λ _. cond-all P (not (eqb (s .progress .phase) 1)) _ _ (λ _. refused 1 refl)
-      (λ _. cond-all P (eqb (s .progress .entries) 4294967295) _ _ (λ _. refused 22 refl) (λ _. done)))
+      (λ _. cond-all P (eqb (s .progress .entries) LAST_ENTRY) _ _ (λ _. refused 22 refl) (λ _. done)))
 
 -- ---- the event that an entry writes
 

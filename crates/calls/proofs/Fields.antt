@@ -6,7 +6,7 @@ use mathlib.Core.List.{List, [], _∷_}
 use lib.Dec.{T, ltb, ltb→lt, lit<}
 use lib.ListN.{drop}
 use borrow.Author.Tests.{eq-eqb}
-use Rattle.bits.proofs.Tells.{both-false}
+use Rattle.bits.proofs.Tells.{both-false, cond-all}
 use Rattle.bits.proofs.WordLaws.{and-l, and-r}
 use Rattle.definitions.specs.Interruption.{hasErrorCode, isSoft, fromVector}
 use Rattle.vmcs.specs.Field.{Field, Word16, Word64, Word32, Natural, placeOf, sizeOf, widthBits, valueOf, put}
@@ -23,7 +23,6 @@ use Rattle.vcpu_events.specs.declared.Injection.the-variants.{Empty, Held, Writ
 use Rattle.vcpu_report.specs.Laws.{oneOf}
 use Rattle.record.specs.Fitting.{VmcsFits}
 use Rattle.record_edits.proofs.Fits.{put-fits}
-use Rattle.calls.proofs.Choices.{cond-all}
 
 -- ---- one write
 

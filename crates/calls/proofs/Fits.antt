@@ -10,6 +10,7 @@ use borrow.Author.Tests.{eqb-false, leb-false, ltb-false}
 use Rattle.bits.specs.Words.{low32, high32}
 use Rattle.bits.proofs.WithBit.{withBit-lt}
 use Rattle.bits.specs.LittleEndian.{Below}
+use Rattle.bits.proofs.Tells.{cond-all}
 use Rattle.definitions.specs.Interruption.{hasErrorCode, isSoft, fromVector}
 use Rattle.definitions.proofs.EventLaws.{event-bits}
 use Rattle.regs.specs.Registers.{withReg, withRegOfIndex}
@@ -49,7 +50,6 @@ use Rattle.blocks.specs.ReportBlock.{reportOf}
 use Rattle.call_specs.specs.Records.{queueStep}
 use Rattle.calls.proofs.Keeps.{keeps-queue-step, keeps-interrupt, keeps-field, keeps-register, keeps-apic, keeps-entry}
 use Rattle.calls.specs.Reference.{Call, setup, queueEvent, injectInterrupt, entry, exitReport, apicValue, fieldWrite, registerWrite, WellTyped}
-use Rattle.calls.proofs.Choices.{cond-all}
 use Rattle.record_edits.proofs.Fits.{numbers-set, numbers-shifted, reg-fits, put-fits}
 use Rattle.calls.proofs.Fields.{value-fits, applied-fits}
 use Rattle.calls.proofs.SetupFits.{writes-fit, capabilities-fit}

@@ -10,6 +10,7 @@ use lib.Dec.{eqb, lit<}
 use borrow.Author.Tests.{eqb-true, eqb-false}
 use Rattle.bits.specs.Words.{bit, bitNot}
 use Rattle.bits.proofs.BitLaws.{bit-and}
+use Rattle.bits.proofs.Tells.{cond-all}
 use Rattle.vmcs.specs.Cr.{cr0Words, cr4Words, cr0Writes, cr4Writes}
 use Rattle.vmcs.specs.Efer.{updateEfer}
 use Rattle.vmcs.specs.Field.{Field, placeOf, sizeOf, valueOf}
@@ -33,7 +34,7 @@ use Rattle.vcpu_report.specs.Laws.{oneOf}
 use Rattle.vcpu_report.proofs.Steps.{fieldsOf, untouched}
 use Rattle.calls.specs.Reference.{choose, basicReason, MovesTo, moves, movedBy, crValue, crMask, cr0Bounds, cr4Asked}
 use Rattle.calls.specs.Calls.{limitsIn}
-use Rattle.calls.proofs.Choices.{cond-all, choose-yes, choose-no, choose-ap}
+use Rattle.calls.proofs.Choices.{choose-yes, choose-no, choose-ap}
 use Rattle.calls.proofs.ReportNumbers.{move-tells, access-tells, moved-agrees}
 
 -- ---- one way of handling after another

@@ -10,7 +10,7 @@ use lib.Dec.{eqb}
 use borrow.Author.Tests.{eqb-false, ne-eqb}
 use Rattle.bits.specs.Refuses.{Refuses}
 use Rattle.bits.specs.Words.{bit}
-use Rattle.bits.proofs.Tells.{both-false}
+use Rattle.bits.proofs.Tells.{both-false, cond-all}
 use Rattle.vcpu_events.specs.declared.Injection.{Injection}
 use Rattle.vcpu_events.specs.declared.Injection.the-variants.{Held, Written}
 use Rattle.blocks.specs.ReportBlock.{reportOf}
@@ -18,7 +18,7 @@ use Rattle.calls.specs.Moves.{Move, fails, exits, tallied}
 use Rattle.calls.specs.Reference.{Call, setup, queueEvent, injectInterrupt, entry, exitReport, apicValue, fieldWrite, registerWrite, Event, entryMove, answerOn, isHeld, waits, Words, inPhase, atExit, wordsBy, Reference, moveOn, accept, referenceStep, referenceAfter, Fed, ownRules}
 use Rattle.calls.specs.Calls.{writesField, written}
 use Rattle.calls.specs.DemandThree.{acceptedSetup, NoSetup, OneSetup}
-use Rattle.calls.proofs.Choices.{cond-all, choose-no, choose-all}
+use Rattle.calls.proofs.Choices.{choose-no, choose-all}
 use Rattle.calls.proofs.Whole.{Follows}
 
 -- ---- what acceptance says of the phase

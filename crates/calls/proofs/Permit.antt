@@ -9,7 +9,7 @@ use lib.Dec.{T, eqb, leb, ltb, ltb→lt, lit<}
 use borrow.Author.Tests.{eqb-true, eqb-false, leb-false}
 use Rattle.bits.specs.Words.{bit, Within}
 use Rattle.bits.proofs.BitLaws.{bit-of-zero}
-use Rattle.bits.proofs.Tells.{both-false}
+use Rattle.bits.proofs.Tells.{both-false, cond-all}
 use Rattle.bits.proofs.WordLaws.{and-l, and-r}
 use Rattle.regs.specs.Registers.{withRegOfIndex}
 use Rattle.regs.specs.declared.RegWritten.{RegWritten}
@@ -24,7 +24,7 @@ use Rattle.vmcs.specs.Names.VmcsGuestNW as VmcsGuestNW
 use Rattle.vmcs.specs.Writes.{_≔_}
 use Rattle.vmcs.specs.declared.Vmcs.{Vmcs}
 use Rattle.vmcs.specs.declared.Written.{Written as FieldsWritten}
-use Rattle.vcpu_session.specs.Session.{isUnlawful}
+use Rattle.vcpu_session.specs.Session.{LAST_ENTRY, isUnlawful}
 use Rattle.vcpu_session.specs.declared.Capabilities.{Capabilities}
 use Rattle.vcpu_session.specs.declared.Session.{Session}
 use Rattle.vcpu_events.specs.Queue as Queue
@@ -58,7 +58,6 @@ use Rattle.calls.specs.Moves.{begun}
 use Rattle.calls.specs.Calls.{isRefused, fed, writesField, written, viewOf}
 use Rattle.calls.specs.DemandThree as Demand
 use Rattle.calls.specs.DemandThree.{Unwritten, Permits}
-use Rattle.calls.proofs.Choices.{cond-all}
 use Rattle.calls.proofs.RawWrites.{other-field}
 use Rattle.calls.proofs.Fields.{stack-keeps, injection-keeps}
 use Rattle.calls.proofs.Sessions.{hasBuffers, next, sessionAfter, sessionLogged, sessionLog, Sound, sound-sized}
@@ -141,7 +140,7 @@ module _ (c : Capabilities) where
   enter-kept s stack k =
       cond-all P (isUnlawful s) _ _ (λ _. k)
       (λ _. cond-all P (not (eqb (s .progress .phase) 1)) _ _ (λ _. k)
-      (λ _. cond-all P (eqb (s .progress .entries) 4294967295) _ _ (λ _. k)
+      (λ _. cond-all P (eqb (s .progress .entries) LAST_ENTRY) _ _ (λ _. k)
       (λ _. with-fields s _ refl (entry-kept c (s .vmcs) (s .progress .launched) stack (frontOf (s .queue)) (injectionOf (s .queue) (s .vmcs)) (k .fields)) k)))
     where
       P : Entered → Type 0

@@ -9,6 +9,7 @@ use lib.ListN.{length, getD}
 use lib.Dec.{eqb, eqb→eq}
 use borrow.Author.Tests.{eqb-true, eqb-false, eq-eqb}
 use Rattle.bits.proofs.AllBelow.{at}
+use Rattle.bits.proofs.Tells.{cond-all}
 use Rattle.vmcs.specs.Field.{Field, Word16, Word64, Word32, Natural, placeOf, sizeOf, valueOf, put}
 use Rattle.vmcs.specs.Writes.{_≔_, sameField, Sized}
 use Rattle.vmcs.specs.Named.{encodings}
@@ -18,7 +19,7 @@ use Rattle.vmcs.proofs.Scan.{at-position}
 use Rattle.vmcs.proofs.TableTest.{table}
 use Rattle.vmcs.proofs.WriteLaws.{read-applied}
 use Rattle.calls.specs.Reference.{choose}
-use Rattle.calls.proofs.Choices.{impossible, cond-all}
+use Rattle.calls.proofs.Choices.{impossible}
 
 -- the place of a field in the table
 abbrev rankOf : Field → ℕ

@@ -7,7 +7,8 @@ use lib.ListN.{replicate}
 use lib.Dec.{eqb, lit<}
 use borrow.Author.Tests.{eqb-true}
 use Rattle.bits.specs.Words.{flag}
-use Rattle.vcpu_session.specs.Session.{newSession, isUnlawful}
+use Rattle.bits.proofs.Tells.{cond-all}
+use Rattle.vcpu_session.specs.Session.{LAST_ENTRY, newSession, isUnlawful}
 use Rattle.vcpu_session.specs.declared.Session.{Session}
 use Rattle.vcpu_events.specs.Queue as Queue
 use Rattle.vcpu_events.specs.Queue.{answered}
@@ -36,7 +37,7 @@ use Rattle.call_specs.specs.SetupCall.{setupAccepts, setupCall}
 use Rattle.calls.specs.Reference.{Call, setup, queueEvent, injectInterrupt, entry, exitReport, apicValue, fieldWrite, registerWrite, WellTyped, AllWellTyped}
 use Rattle.calls.specs.Moves.{begun}
 use Rattle.calls.specs.Calls.{reported, Outcome, plain, framed, numbered, entered, stepOf, waitingOf, after, historyOf, isRefused}
-use Rattle.calls.proofs.Choices.{cond-all, impossible}
+use Rattle.calls.proofs.Choices.{impossible}
 use Rattle.calls.proofs.Sessions.{hasBuffers, left, entering, sessionStep, next, sessionAfter, sessionLog, Sound}
 use Rattle.calls.proofs.Fits.{sound-step}
 use Rattle.calls.proofs.Steps.{step}
@@ -250,7 +251,7 @@ unfolding Entry.entry
 no-launch s stack =
     cond-all P (isUnlawful s) _ _ (λ _ _. refl)
     (λ _. cond-all P (not (eqb (s .progress .phase) 1)) _ _ (λ _ _. refl)
-    (λ _. cond-all P (eqb (s .progress .entries) 4294967295) _ _ (λ _ _. refl) (λ _. impossible)))
+    (λ _. cond-all P (eqb (s .progress .entries) LAST_ENTRY) _ _ (λ _ _. refl) (λ _. impossible)))
   where
     P : Entered → Type 0
     P a = isRefused (a .refusal) ≡ true → a .resumed ≡ false

@@ -12,6 +12,7 @@ use borrow.Author.Tests.{eqb-true, ltb-false}
 use Rattle.bits.specs.LittleEndian.{numberOf, littleEndian, Below}
 use Rattle.bits.proofs.LittleEndianLaws.{below-drop}
 use Rattle.bits.specs.Words.{bit, bitNot, low32}
+use Rattle.bits.proofs.Tells.{cond-all}
 use Rattle.regs.specs.Registers.{listOf}
 use Rattle.regs.specs.declared.GeneralRegisters.{GeneralRegisters}
 use Rattle.definitions.specs.VmxExitReason as VmxExitReason
@@ -47,7 +48,6 @@ use Rattle.vcpu_report.proofs.ReportLaws.{phase-known}
 use Rattle.record.specs.Runs.{All, Numbers, readAll, numbers}
 use Rattle.record.specs.Fitting.{Fitting, VmcsFits, PairFits, FixedFits, CapabilitiesFit}
 use Rattle.record.proofs.FittingLaws.{regs-fits, vmcs-fits, in-phase-fits}
-use Rattle.calls.proofs.Choices.{cond-all}
 use Rattle.calls.proofs.Fields.{_⊗_, value-fits, applied-fits}
 use Rattle.record.proofs.Codecs.{registers-read}
 use Rattle.record_edits.proofs.Fits.{reg-fits}

@@ -11,7 +11,7 @@ use borrow.Author.Tests.{eqb-true, leb-true, eq-eqb, le-leb}
 use Rattle.bits.specs.Refuses.{Rule, by, Refuses}
 use Rattle.bits.specs.Words.{flag, Within, Apart}
 use Rattle.bits.specs.LittleEndian.{littleEndian}
-use Rattle.bits.proofs.Tells.{Tells, tells-eq, tells-not, tells-as, rung, ladder}
+use Rattle.bits.proofs.Tells.{Tells, tells-eq, tells-not, tells-as, rung, ladder, cond-all}
 use Rattle.bits.proofs.WordLaws as W
 use Rattle.vmcs.specs.Control.{pairAt}
 use Rattle.vmcs.specs.declared.controls.Pair.{Pair}
@@ -28,7 +28,6 @@ use Rattle.blocks.specs.SetupLayout as Layout
 use Rattle.blocks.specs.SetupBlock.{blockAccepted}
 use Rattle.calls.specs.Reference.{Buffers, limitsOf, Consistent, wordRules, setupRules}
 use Rattle.calls.specs.Calls.{pairBounds, limitsIn}
-use Rattle.calls.proofs.Choices.{cond-all}
 use Rattle.calls.proofs.Sessions.{hasBuffers}
 
 -- seven tests joined

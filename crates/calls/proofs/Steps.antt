@@ -11,7 +11,7 @@ use lib.ListN.{length, getD, take, drop, set}
 use lib.Seq.{take-suc-set, length-take-le}
 use lib.Bits.{bitAnd, bitOr}
 use lib.Dec.{eqb, ltb, leb, lit<, eqb·suc-zero}
-use borrow.Author.Tests.{eqb-true, eqb-false, leb-true, leb-false, ltb-true, ltb-false, not-true, not-false, eq-eqb}
+use borrow.Author.Tests.{eqb-true, eqb-false, leb-true, leb-false, ltb-true, ltb-false, not-true, not-false}
 use Rattle.bits.specs.Words.{bit, bitNot, withBit, low32, high32}
 use Rattle.bits.proofs.BitLaws.{bit-and, bit-or, bit-not}
 use Rattle.vmcs.specs.Control.{controlWord}
@@ -28,7 +28,7 @@ use Rattle.vmcs.specs.declared.Written.{Written as FieldsWritten}
 use Rattle.vmcs.proofs.TableTest.{table}
 use Rattle.regs.specs.Registers.{withRegOfIndex}
 use Rattle.regs.specs.declared.RegWritten.{RegWritten}
-use Rattle.vcpu_session.specs.Session.{withVmcs, withQueue}
+use Rattle.vcpu_session.specs.Session.{LAST_ENTRY, withVmcs, withQueue}
 use Rattle.vcpu_session.specs.declared.Session.{Session}
 use Rattle.vcpu_session.proofs.LawfulLaws.{of-lawful}
 use Rattle.vcpu_events.specs.Queue as Queue
@@ -50,9 +50,7 @@ use Rattle.vcpu_setup.specs.Capability.{capabilitiesOf}
 use Rattle.vcpu_setup.specs.Laws.{Typed, SetUp}
 use Rattle.vcpu_setup.specs.Words.{primarySet, primaryClear, setupWords}
 use Rattle.vcpu_setup.proofs.SetupLaws.{set-up, setup-number, refused-keeps}
-use Rattle.vcpu_exit.specs.Reading.{failed}
 use Rattle.vcpu_exit.specs.Refusal.{reportRefusal}
-use Rattle.vcpu_answers.specs.Answer as Answers
 use Rattle.vcpu_report.specs.declared.Reported.{Reported}
 use Rattle.vcpu_exit.specs.declared.Report.{Report}
 use Rattle.vcpu_exit.proofs.Passes.{passes}
@@ -61,15 +59,15 @@ use Rattle.vcpu_report.specs.Handlers as Handlers
 use Rattle.blocks.specs.ReportLayout as ReportLayout
 use Rattle.blocks.specs.ReportBlock.{reportOf}
 use Rattle.vcpu_report.specs.Laws.{oneOf}
-use Rattle.vcpu_report.proofs.ReportLaws.{report-laws}
+use Rattle.vcpu_report.proofs.ReportLaws.{exit-is, report-laws}
 use Rattle.blocks.specs.SetupBlock.{argumentsOf, msrsOf, featuresOf}
 use Rattle.call_specs.specs.Records.{queueStep}
 use Rattle.bits.specs.Refuses.{by, Refuses}
-use Rattle.bits.proofs.Tells.{Tells, tells-eq, tells-leb, tells-and, tells-or, tells-not, tells-as}
+use Rattle.bits.proofs.Tells.{Tells, tells-eq, tells-leb, tells-and, tells-or, tells-not, tells-as, cond-all}
 use Rattle.calls.specs.Moves.{Move, queues, exits, fails, rests, moved, answerOf, Tally, tallied}
 use Rattle.calls.specs.Reference.{choose, Call, setup, queueEvent, injectInterrupt, entry, exitReport, apicValue, fieldWrite, registerWrite, WellTyped, Event, entryMove, moveBy, IsHeld, isHeld, answerOn, moveOn, Reference, validBy, windowBy, inPhase, atSetup, atEntry, atExit, atFieldWrite, wordsBy, referenceStep, referenceAnswer, Buffers, reportRules, ownRules}
 use Rattle.calls.specs.Calls.{Outcome, Logged, isRefused, eventOf, eventsOf, waitingOf, limitsIn, wordsOf, viewOf, moveOf}
-use Rattle.calls.proofs.Choices.{cond-all, impossible, choose-no, choose-ap}
+use Rattle.calls.proofs.Choices.{impossible, choose-no, choose-ap}
 use Rattle.calls.proofs.Events.{events-set, events-long, events-shifted, events-front}
 use Rattle.calls.proofs.RawWrites.{Names, raw-read, placed-listed, listed-placed}
 use Rattle.calls.proofs.WordBits.{tabled}
@@ -481,7 +479,7 @@ module _ (t : Tally Event) (s : Session) (stack : ℕ) (h : Sound s) where
       rw (of-lawful s (h .lawful))
       (cond-all P (not (eqb (s .progress .phase) 1)) _ _
       (λ y. refuses t s (entry stack) 1 refl (inl (eqb-false _ _ (not-true _ y), refl)))
-      (λ y. cond-all P (eqb (s .progress .entries) 4294967295) _ _
+      (λ y. cond-all P (eqb (s .progress .entries) LAST_ENTRY) _ _
       (λ u. refuses t s (entry stack) 22 refl (inr (λ n. n (eqb-true _ _ (not-false _ y)), inl (eqb-true _ _ u, refl))))
       (λ u.
       let w = waitingOf s in
@@ -633,10 +631,6 @@ register-step t s i v h =
     P a = Stepped t s (registerWrite i v) (left (registersWritten s a))
 
 -- ---- exit report
-
-exit-is : (s : Session) (r : Report) → reportRefusal s r ≡ 0 → failed r ≡ false → Exit.exitReport s r ≡ Exit.reported 0 (Answers.answerOf r) (Exit.afterExit s r)
-unfolding Exit.exitReport Exit.accepted
-exit-is s r e f = rw (eq-eqb (reportRefusal s r) 0 e, f)
 
 module _ (t : Tally Event) (s : Session) (block : List ℕ) (h : Sound s) where
   abbrev report : Call

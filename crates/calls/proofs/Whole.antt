@@ -6,6 +6,7 @@ use mathlib.Core.List.{List, [], _∷_}
 use borrow.Author.Tests.{eqb-true, not-false}
 use Rattle.bits.specs.Refuses.{Refuses}
 use Rattle.bits.specs.Words.{bit}
+use Rattle.bits.proofs.Tells.{cond-all}
 use Rattle.vcpu_session.specs.declared.Session.{Session}
 use Rattle.vcpu_events.specs.declared.Injection.{Injection}
 use Rattle.vcpu_events.specs.declared.Injection.the-variants.{Held, Written}
@@ -13,7 +14,6 @@ use Rattle.blocks.specs.ReportBlock.{reportOf}
 use Rattle.calls.specs.Moves.{Move, fails, exits, rests, moved, Tally, tallied, talliedAll}
 use Rattle.calls.specs.Reference.{choose, Call, setup, queueEvent, injectInterrupt, entry, exitReport, apicValue, fieldWrite, registerWrite, WellTyped, AllWellTyped, Event, entryMove, Reference, isHeld, answerOn, moveOn, referenceStep, referenceAfter, referenceAnswers, ownRules, Fed}
 use Rattle.calls.specs.Calls.{isRefused, fed, answers, moveOf, movesOf, waitingOf, viewOf}
-use Rattle.calls.proofs.Choices.{cond-all}
 use Rattle.calls.proofs.Sessions.{next, sessionAfter, sessionLogged, sessionLog, Sound}
 use Rattle.calls.proofs.Fits.{sound-step}
 use Rattle.calls.proofs.Steps.{step}

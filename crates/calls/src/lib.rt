@@ -30,7 +30,7 @@ fn inject_interrupt(bytes: &mut [u8], vector: u64) -> u32
 }
 
 fn enter(bytes: &mut [u8], stack: u64, resumed: &mut u8, injection: &mut u8) -> u32
-    ensures { λ r. ⌜ Enters (now (bytes .entry)) stack r (now (bytes .exit)) (now (injection .exit)) ⌝ }
+    ensures { λ r. ⌜ Enters (now (bytes .entry)) stack r (now (bytes .exit)) (now (resumed .exit)) (now (injection .exit)) ⌝ }
 {
     x86_vcpu::session::vcpu_entry(bytes, stack, resumed, injection)
 }

@@ -1,12 +1,8 @@
--- Choices by a test: what holds of each choice holds of the chosen, and a chain of refusals that gives 0. Assumes nothing.
+-- A chain of refusals that gives 0. Assumes nothing.
 use mathlib.Core.Path.{_≡_, refl}
 use mathlib.Core.Bool.{Bool, true, false, cond}
 use Prim.Native.Nat.{ℕ, _<_}
 use native.Mathlib.Omega.{arith}
-
-pub cond-all : {A : Type 0} (P : A → Type 0) (t : Bool) (a b : A) → (t ≡ true → P a) → (t ≡ false → P b) → P (cond t a b)
-cond-all P true a b p q = p refl
-cond-all P false a b p q = q refl
 
 -- a chain of refusals gives 0: its first test failed, and so does the rest
 pub passed : (t : Bool) (n m : ℕ) → 0 < n → cond t n m ≡ 0 → (t ≡ false) × (m ≡ 0)

@@ -9,6 +9,7 @@ use lib.Dec.{T, eqb}
 use borrow.Author.Tests.{eqb-true, eqb-false, eq-eqb}
 use Rattle.bits.specs.Words.{bit, bitNot, Within}
 use Rattle.bits.proofs.WordLaws.{words, within-pow}
+use Rattle.bits.proofs.Tells.{cond-all}
 use Rattle.definitions.specs.VmxExitReason as VmxExitReason
 use Rattle.vmcs.specs.Cr.{cr0Free, cr0Off, crWords, cr0Words, cr4Words, cr0Writes, cr4Writes}
 use Rattle.vmcs.specs.Efer.{isLongMode, lacksIa32e, longModeEfer, longModeEntry, eferUpdate, updateEfer}
@@ -28,7 +29,6 @@ use Rattle.vcpu_session.specs.Session.{VMX_PREEMPTION_TIMER_SET_VALUE}
 use Rattle.vcpu_exit.specs.Reading.{reasonOf, movedValue, isMoveTo, turnsPagingOn, advanceOf}
 use Rattle.vcpu_exit.specs.Refusal.{ownedBitsDiffer, otherAccess, eferRefusal, entryPair}
 use Rattle.vcpu_exit.specs.declared.Report.{Report}
-use Rattle.vcpu_exit.proofs.Conds.{cond-all}
 use Rattle.vcpu_events.specs.Entry.{windowWord, windowSet}
 use Rattle.vcpu_report.specs.Handlers.{reportWrites, stored, timerSet, cr0Set, cr4Set, eferWrites, eferUpdated, handled, ripAdvanced, vmcsAfter, failureWrites, failureStored}
 use Rattle.vcpu_report.specs.Invariant.{Consistent, PermittedBy, Owned, SoundFields, Fits}

@@ -9,6 +9,7 @@ use lib.Dec.{T, eqb, eqb→eq}
 use Rattle.bits.specs.Words.{bit, bitNot}
 use Rattle.bits.proofs.WordLaws as W
 use Rattle.bits.proofs.WordLaws.{and-l, and-r}
+use Rattle.bits.proofs.Tells.{both-false}
 use Rattle.vmcs.specs.Cr.{cr0Words, cr4Words, cr0Writes, cr4Writes}
 use Rattle.vmcs.specs.Efer.{updateEfer}
 use Rattle.vmcs.specs.Field.{Field, placeOf, sizeOf, valueOf}
@@ -26,21 +27,21 @@ use Rattle.vcpu_exit.specs.declared.Report.{Report}
 use Rattle.vcpu_events.specs.Entry.{windowWord, windowSet}
 use Rattle.vcpu_report.specs.Handlers.{reportWrites, stored, timerSet, cr0Set, cr4Set, eferWrites, eferUpdated, handled, ripAdvanced, vmcsAfter}
 use Rattle.vcpu_report.specs.Laws.{oneOf, handlerFields}
-use Rattle.vcpu_report.proofs.Steps.{by-move, by-reason, neither, fieldsOf, kept-field, every}
+use Rattle.vcpu_report.proofs.Steps.{by-move, by-reason, fieldsOf, kept-field, every}
 
 -- ---- a field that handling does not write
 
 -- one that is not in a list is none of its fields
 apart : (hs : List Field) (g f : Field) → oneOf hs f ≡ false → T (oneOf hs g) → sameField g f ≡ false
 apart [] g f e t = absurd t
-apart (h ∷ hs) g f e t = go (sameField h g) refl t (apart hs g f (neither (sameField h f) (oneOf hs f) e .1))
+apart (h ∷ hs) g f e t = go (sameField h g) refl t (apart hs g f (both-false (sameField h f) (oneOf hs f) e .1))
   where
     go : (b : Bool) → sameField h g ≡ b → T (b || oneOf hs g) → (T (oneOf hs g) → sameField g f ≡ false) → sameField g f ≡ false
     go true q t rest =
         let s : T (sameField h g) = rw q tt in
         let size : sizeOf h ≡ sizeOf g = eqb→eq _ _ (and-l (eqb (sizeOf h) (sizeOf g)) (eqb (placeOf h) (placeOf g)) s) in
         let place : placeOf h ≡ placeOf g = eqb→eq _ _ (and-r (eqb (sizeOf h) (sizeOf g)) (eqb (placeOf h) (placeOf g)) s) in
-        rw (size, place) at (neither (sameField h f) (oneOf hs f) e .0)
+        rw (size, place) at (both-false (sameField h f) (oneOf hs f) e .0)
     go false q t rest = rest t
 
 all-apart : (hs gs : List Field) (f : Field) → oneOf hs f ≡ false → T (every (oneOf hs) gs) → oneOf gs f ≡ false

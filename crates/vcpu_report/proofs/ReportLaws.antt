@@ -5,6 +5,7 @@ use Prim.Native.Nat.{ℕ, _≤_}
 use native.Mathlib.Omega.{arith}
 use lib.Dec.{eqb}
 use borrow.Author.Tests.{eqb-true, eq-eqb}
+use Rattle.bits.proofs.Tells.{cond-all}
 use Rattle.definitions.specs.VmxExitReason as VmxExitReason
 use Rattle.vmcs.specs.Field.{valueOf}
 use Rattle.vmcs.specs.Names.VmcsControl32 as VmcsControl32
@@ -21,7 +22,6 @@ use Rattle.vcpu_session.proofs.LawfulLaws.{lawful-alike, lawful-phase}
 use Rattle.vcpu_exit.specs.Reading.{reasonOf, failed, isApic}
 use Rattle.vcpu_exit.specs.Refusal.{reportRefusal}
 use Rattle.vcpu_exit.specs.declared.Report.{Report}
-use Rattle.vcpu_exit.proofs.Conds.{cond-all}
 use Rattle.vcpu_exit.proofs.Passes.{passes}
 use Rattle.vcpu_answers.specs.Answer.{answerOf}
 use Rattle.vcpu_answers.specs.declared.AxVCpuExitReason.the-variants.{Nothing, FailEntry}
@@ -63,7 +63,7 @@ module _ (s : Session) (r : Report) where
   unfolding exitReport accepted
   failed-is e f = rw (eq-eqb (reportRefusal s r) 0 e, f)
 
-  exit-is : reportRefusal s r ≡ 0 → failed r ≡ false → exitReport s r ≡ reported 0 (answerOf r) (afterExit s r)
+  pub exit-is : reportRefusal s r ≡ 0 → failed r ≡ false → exitReport s r ≡ reported 0 (answerOf r) (afterExit s r)
   unfolding exitReport accepted
   exit-is e f = rw (eq-eqb (reportRefusal s r) 0 e, f)
 

@@ -1,11 +1,12 @@
 -- The steps of handling an exit: a property of fields that each way of handling gives, and what lists of writes leave. Assumes nothing.
 use mathlib.Core.Path.{_≡_, refl, _∙_}
-use mathlib.Core.Bool.{Bool, true, false, not, _&&_, _||_, true≢false}
+use mathlib.Core.Bool.{Bool, true, false, not, _&&_}
 use mathlib.Core.List.{List, [], _∷_}
 use Prim.Native.Nat.{ℕ, _<_}
 use lib.Dec.{T, T-not, eqb, ltb, ltb→lt}
 use Rattle.bits.specs.Words.{bit}
 use Rattle.bits.proofs.WordLaws.{and-l, and-r, is-false}
+use Rattle.bits.proofs.Tells.{cond-all, both-false}
 use Rattle.definitions.specs.VmxExitReason as VmxExitReason
 use Rattle.vmcs.specs.Field.{Field, placeOf, sizeOf, valueOf}
 use Rattle.vmcs.specs.Flags.Cr0Flags as Cr0Flags
@@ -19,7 +20,6 @@ use Rattle.vcpu_session.specs.declared.Capabilities.{Capabilities}
 use Rattle.vcpu_exit.specs.Reading.{reasonOf, movedValue, isMoveTo}
 use Rattle.vcpu_exit.specs.Refusal.{entryPair}
 use Rattle.vcpu_exit.specs.declared.Report.{Report}
-use Rattle.vcpu_exit.proofs.Conds.{cond-all}
 use Rattle.vcpu_events.specs.Entry.{windowSet}
 use Rattle.vcpu_report.specs.Handlers.{timerSet, cr0Set, cr4Set, eferUpdated, crHandled, handledAs, handled}
 use Rattle.vcpu_report.specs.Invariant.{SoundWords, SoundFields}
@@ -47,14 +47,10 @@ abbrev pub fieldsOf : List Write → List Field
 fieldsOf [] = []
 fieldsOf (w ∷ ws) = w .field ∷ fieldsOf ws
 
-pub neither : (a b : Bool) → (a || b) ≡ false → (a ≡ false) × (b ≡ false)
-neither false b e = (refl, e)
-neither true b e = absurd (true≢false e)
-
 pub untouched : (ws : List Write) (f : Field) (x : ℕ) → oneOf (fieldsOf ws) f ≡ false → lastOf ws f x ≡ x
 untouched [] f x e = refl
 untouched (w ∷ ws) f x e =
-    let p = neither (sameField (w .field) f) (oneOf (fieldsOf ws) f) e in
+    let p = both-false (sameField (w .field) f) (oneOf (fieldsOf ws) f) e in
     rw (p .0) (untouched ws f x (p .1))
 
 pub kept-field : (ws : List Write) (v : Vmcs) (f : Field) (x : ℕ) → Sized v → placeOf f < sizeOf f → oneOf (fieldsOf ws) f ≡ false

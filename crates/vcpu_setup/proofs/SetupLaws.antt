@@ -1,20 +1,17 @@
 -- The laws of an accepted setup, a refused one changes nothing, and both keep a lawful session lawful. Assumes nothing.
-use Prim.Native.Nat.{ℕ, zero, suc, _<_, _^_}
+use Prim.Native.Nat.{ℕ, zero, suc, _<_}
 use native.Mathlib.Omega.{arith}
-use mathlib.Core.Path.{_≡_, refl, sym, ap, _∙_}
+use mathlib.Core.Path.{_≡_, refl, sym, _∙_}
 use mathlib.Core.Bool.{Bool, true, false, not, cond, _&&_}
-use mathlib.Core.List.{List, [], _∷_, _++_}
 use lib.Dec.{T, eqb, eqb→eq, eqb·suc-zero, lit<}
 use lib.ListN.{length}
-use borrow.Author.Tests.{eqb-true, eqb-false}
 use Rattle.bits.specs.Words.{Within}
 use Rattle.bits.proofs.WordLaws as W
 use Rattle.vmcs.specs.Control.{pairAt}
-use Rattle.vmcs.specs.Cr.{cr0Words, cr4Words, firstCr0}
+use Rattle.vmcs.specs.Cr.{firstCr0}
 use Rattle.vmcs.specs.Field.{Field, placeOf, sizeOf, valueOf}
-use Rattle.vmcs.specs.Writes.{Sized, applied, lastOf}
+use Rattle.vmcs.specs.Writes.{Sized, lastOf}
 use Rattle.vmcs.specs.declared.Vmcs.{Vmcs}
-use Rattle.vmcs.specs.declared.controls.Pair.{Pair}
 use Rattle.vmcs.specs.Names.VmcsControl32 as VmcsControl32
 use Rattle.vmcs.specs.Names.VmcsControlNW as VmcsControlNW
 use Rattle.vmcs.specs.Names.VmcsGuest32 as VmcsGuest32
@@ -27,12 +24,10 @@ use Rattle.vcpu_session.specs.declared.Capabilities.{Capabilities}
 use Rattle.vcpu_session.specs.declared.Session.{Session}
 use Rattle.vcpu_session.proofs.LawfulLaws.{lawful-alike, lawful-phase}
 use Rattle.vcpu_events.specs.Queue.{answered}
-use Rattle.vcpu_events.specs.declared.Answered.{Answered}
 use Rattle.vcpu_setup.specs.Capability.{pairsOf, oldsOf, capabilitiesOf}
 use Rattle.vcpu_setup.specs.Words.{wordsRefusal, setupWords}
 use Rattle.vcpu_setup.specs.Writes.{setupWrites, wordsOf, cr0Of, cr4Of, vmcsSet}
 use Rattle.vcpu_setup.specs.Setup.{pairConsistent, fixedConsistent, consistent, setupRefusal, readied, setupOf}
-use Rattle.vcpu_setup.specs.declared.CapabilityMsrs.{CapabilityMsrs}
 use Rattle.vcpu_setup.specs.declared.Features.{Features}
 use Rattle.vcpu_setup.specs.declared.Arguments.{Arguments}
 use Rattle.vcpu_setup.specs.Laws.{controlWordsOf, Typed, SetUp}

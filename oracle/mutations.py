@@ -151,7 +151,7 @@ MUTATIONS = [Mutation(*texts) for texts in [
     ("record_edits::put_phase(b, Phase::READY);", "record_edits::put_phase(b, Phase::RUNNING);"),
     ("if record::phase_at(b) != Phase::WAITING {", "if record::phase_at(b) == Phase::FRESH {"),
     ("if p.phase != Phase::READY {", "if p.phase == Phase::ENDED {"),
-    ("if p.entries == 0xFFFF_FFFF {", "if p.entries >= 0xFFFF_FFFE {"),
+    ("if p.entries == vcpu_session::LAST_ENTRY {", "if p.entries >= vcpu_session::LAST_ENTRY - 1 {"),
     ("resumed: p.launched,", "resumed: false,"),
     ("if refusal != 0 {\n        return ReportAnswer {", "if refusal == 1 {\n        return ReportAnswer {"),
     ("refusal: 0,\n        answer: answer,", "refusal: 0,\n        answer: AxVCpuExitReason::Nothing,"),

@@ -1,8 +1,8 @@
--- `calls::set_up` meets its contract. Assumes nothing.
+-- `exported_calls::set_up` meets its contract. Assumes nothing.
 use borrow.Author.Needs.{needs}
 use Rattle.calls.proofs.Contracts.{contracts}
-use Rattle.calls.proofs.set_up.Statement.{statement}
-use Rattle.calls.proofs.set_up.Tie as tie
+use Rattle.exported_calls.proofs.set_up.Statement.{statement}
+use Rattle.exported_calls.proofs.set_up.Tie as tie
 
 returns : tie.Need-returns
 returns c = contracts _ .set-up _ _ _ _ _ _ _ _ _ (c .before .before .before .before .before .before .before .before .vcpu-setup .ensures)

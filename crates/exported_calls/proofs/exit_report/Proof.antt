@@ -1,8 +1,8 @@
--- `calls::exit_report` meets its contract. Assumes nothing.
+-- `exported_calls::exit_report` meets its contract. Assumes nothing.
 use borrow.Author.Needs.{needs}
 use Rattle.calls.proofs.Contracts.{contracts}
-use Rattle.calls.proofs.exit_report.Statement.{statement}
-use Rattle.calls.proofs.exit_report.Tie as tie
+use Rattle.exported_calls.proofs.exit_report.Statement.{statement}
+use Rattle.exported_calls.proofs.exit_report.Tie as tie
 
 pub exit-report-spec : {M : Type 1} → statement M
 exit-report-spec =

@@ -1,13 +1,13 @@
--- `calls::new` meets its contract. Assumes nothing.
+-- `exported_calls::new` meets its contract. Assumes nothing.
 use Prim.Native.Nat.{ℕ}
 use mathlib.Core.Path.{_≡_, sym, ap, _∙_}
 use mathlib.Core.List.{List, []}
 use borrow.Author.Needs.{needs}
 use Rattle.call_specs.specs.Records.{FramesCall, newCall}
 use Rattle.calls.specs.Calls.{newRecord}
 use Rattle.calls.proofs.Contracts.{contracts}
-use Rattle.calls.proofs.new.Statement.{statement}
-use Rattle.calls.proofs.new.Tie as tie
+use Rattle.exported_calls.proofs.new.Statement.{statement}
+use Rattle.exported_calls.proofs.new.Tie as tie
 
 left : (bytes x y z : List ℕ) (o : FramesCall) → o ≡ newCall bytes x y z → o .refusal ≡ 0 → o .bytes ≡ newRecord
 left bytes x y z o h e = ap (λ (p : FramesCall). p .bytes) h ∙ contracts [] .new bytes x y z (sym (ap (λ (p : FramesCall). p .refusal) h) ∙ e)

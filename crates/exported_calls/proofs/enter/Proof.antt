@@ -1,8 +1,8 @@
--- `calls::enter` meets its contract. Assumes nothing.
+-- `exported_calls::enter` meets its contract. Assumes nothing.
 use borrow.Author.Needs.{needs}
 use Rattle.calls.proofs.Contracts.{contracts}
-use Rattle.calls.proofs.enter.Statement.{statement}
-use Rattle.calls.proofs.enter.Tie as tie
+use Rattle.exported_calls.proofs.enter.Statement.{statement}
+use Rattle.exported_calls.proofs.enter.Tie as tie
 
 pub enter-spec : {M : Type 1} → statement M
 enter-spec =

@@ -1,0 +1,60 @@
+// What every list of calls comes to is a theorem about the steps of a list (crate `calls`). The functions here tie these steps to the exported functions: each
+// calls one of them and ensures its step, so that a contract that says less than the step is refused. Nothing calls these.
+ghost use mathlib.Core.Path.{_≡_};
+ghost use Rattle.calls.specs.Reference.{setup, queueEvent, injectInterrupt, exitReport, apicValue, fieldWrite, registerWrite};
+ghost use Rattle.calls.specs.Calls.{newRecord};
+ghost use Rattle.calls.specs.Contracts.{Does, Enters};
+
+fn new(bytes: &mut [u8], a: &mut [u8], b: &mut [u8], msr: &mut [u8]) -> u32
+    ensures { λ r. ⌜ (r ≡ 0 → now (bytes .exit) ≡ newRecord) ⌝ }
+{
+    x86_vcpu::session::vcpu_new(bytes, a, b, msr)
+}
+
+fn set_up(bytes: &mut [u8], block: &[u8], a: &mut [u8], b: &mut [u8], msr: &mut [u8]) -> u32
+    ensures { λ r. ⌜ Does (now (bytes .entry)) (setup (now (block .entry)) (now (a .entry)) (now (b .entry)) (now (msr .entry))) r (now (bytes .exit)) ⌝ }
+{
+    x86_vcpu::setup::vcpu_setup(bytes, block, a, b, msr)
+}
+
+fn queue_event(bytes: &mut [u8], vector: u8, coded: u8, code: u32) -> u32
+    ensures { λ r. ⌜ Does (now (bytes .entry)) (queueEvent vector coded code) r (now (bytes .exit)) ⌝ }
+{
+    x86_vcpu::session::vcpu_queue_event(bytes, vector, coded, code)
+}
+
+fn inject_interrupt(bytes: &mut [u8], vector: u64) -> u32
+    ensures { λ r. ⌜ Does (now (bytes .entry)) (injectInterrupt vector) r (now (bytes .exit)) ⌝ }
+{
+    x86_vcpu::session::vcpu_inject_interrupt(bytes, vector)
+}
+
+fn enter(bytes: &mut [u8], stack: u64, resumed: &mut u8, injection: &mut u8) -> u32
+    ensures { λ r. ⌜ Enters (now (bytes .entry)) stack r (now (bytes .exit)) (now (resumed .exit)) (now (injection .exit)) ⌝ }
+{
+    x86_vcpu::session::vcpu_entry(bytes, stack, resumed, injection)
+}
+
+fn exit_report(bytes: &mut [u8], block: &[u8], answer: &mut [u64; 8]) -> u32
+    ensures { λ r. ⌜ Does (now (bytes .entry)) (exitReport (now (block .entry))) r (now (bytes .exit)) ⌝ }
+{
+    x86_vcpu::report::vcpu_exit_report(bytes, block, answer)
+}
+
+fn apic_value(bytes: &mut [u8], value: u64) -> u32
+    ensures { λ r. ⌜ Does (now (bytes .entry)) (apicValue value) r (now (bytes .exit)) ⌝ }
+{
+    x86_vcpu::session::vcpu_apic_value(bytes, value)
+}
+
+fn write_field(bytes: &mut [u8], encoding: u64, value: u64) -> u32
+    ensures { λ r. ⌜ Does (now (bytes .entry)) (fieldWrite encoding value) r (now (bytes .exit)) ⌝ }
+{
+    x86_vcpu::session::vcpu_write_field(bytes, encoding, value)
+}
+
+fn set_register(bytes: &mut [u8], index: u64, value: u64) -> u32
+    ensures { λ r. ⌜ Does (now (bytes .entry)) (registerWrite index value) r (now (bytes .exit)) ⌝ }
+{
+    x86_vcpu::session::vcpu_set_reg_of_index(bytes, index, value)
+}

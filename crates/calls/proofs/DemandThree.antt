@@ -14,7 +14,6 @@ use Rattle.bits.proofs.Tells.{cond-all}
 use Rattle.vmcs.specs.Field.{valueOf}
 use Rattle.vmcs.specs.Names.VmcsHostNW as VmcsHostNW
 use Rattle.vmcs.specs.Names.VmcsReadOnly32 as VmcsReadOnly32
-use Rattle.vmcs.specs.Writes.{Sized}
 use Rattle.vmcs.specs.declared.Vmcs.{Vmcs}
 use Rattle.vcpu_session.specs.Session.{LAST_ENTRY, newSession, isUnlawful}
 use Rattle.vcpu_session.specs.declared.Session.{Session}
@@ -22,7 +21,6 @@ use Rattle.vcpu_events.specs.Queue.{frontOf}
 use Rattle.vcpu_events.specs.Entry as Entry
 use Rattle.vcpu_events.specs.Entry.{injectionOf, withStack, vmcsAfter, afterEntry}
 use Rattle.vcpu_events.specs.declared.Entered.{Entered}
-use Rattle.vcpu_events.specs.declared.Event as Core
 use Rattle.vcpu_events.specs.declared.Injection.{Injection}
 use Rattle.vcpu_events.specs.declared.Injection.the-variants.{Empty, Held, Written}
 use Rattle.vcpu_setup.specs.Capability.{capabilitiesOf}
@@ -30,20 +28,19 @@ use Rattle.blocks.specs.SetupBlock.{msrsOf}
 use Rattle.record.specs.Codec.{sessionOf}
 use Rattle.calls.specs.Moves.{Move, queues, finds-none, holds, writes, exits, fails, rests, moved, Tally, begun, tallied, talliedAll}
 use Rattle.calls.specs.Reference.{types, Call, entry, WellTyped, AllWellTyped, Event, entryMove, limitsOf, start, Reference, validBy, choose, isHeld, answerOn, referenceStep, referenceAnswer, referenceAfter, referenceAnswers, Fed, ownRules}
-use Rattle.calls.specs.Calls as Calls
-use Rattle.calls.specs.Calls.{stepOf, newRecord, after, loggedOf, historyOf, isRefused, Logged, fed, moveOf, movesOf, tallyOf, written, eventOf, waitingOf, wordsOf, viewOf}
+use Rattle.calls.specs.Calls.{stepOf, newRecord, after, loggedOf, historyOf, isRefused, Logged, fed, moveOf, movesOf, tallyOf, answersOf, written, eventOf, waitingOf, wordsOf}
 use Rattle.calls.specs.DemandThree.{Answers, Wrote, Launches, WaitLaw, isWritten, Permits, Unwritten, judgedFields, acceptedSetup, WholeList}
 use Rattle.calls.proofs.Choices.{impossible, choose-yes, choose-no}
 use Rattle.calls.proofs.WordBits.{tabled}
-use Rattle.calls.proofs.Fields.{put-own, same-stack, same-window, same-injected, injected-word, injected-code, injected-long}
-use Rattle.calls.proofs.Sessions.{sessionStep, next, sessionAfter, sessionLogged, sessionLog, Sound, sound-sized}
+use Rattle.calls.proofs.Fields.{same-stack, injected-word, injected-code, injected-long}
+use Rattle.calls.proofs.Sessions.{sessionStep, next, sessionAfter, sessionLogged, sessionLog, Sound, sound-sized, viewOf}
 use Rattle.calls.proofs.Fits.{sound-step}
-use Rattle.calls.proofs.Steps.{step, written-waits, front-waits, answer-moves}
+use Rattle.calls.proofs.Steps.{step, written-waits, front-waits, answer-moves, rsp-after}
 use Rattle.calls.proofs.Waiting.{Kept, begins, keeps, counted, waits, injects}
 use Rattle.calls.proofs.Whole.{can, moves, accepted, Follows, run, kept-after}
 use Rattle.calls.proofs.Invariants.{entry-ready, Clear, clear-after, launched-after, one-setup}
 use Rattle.calls.proofs.Permit.{unwritten-at, permits-since, enter-kept, kept-permits}
-use Rattle.calls.proofs.Records.{Holds, carried, carry, holds-encoded, sound-new, setup-left, entry-results, report-results}
+use Rattle.calls.proofs.Records.{Holds, carried, carry, holds-new, sound-new}
 
 -- ---- what an accepted entry leaves, case by case
 
@@ -96,33 +93,16 @@ module _ (t : Tally Event) (s : Session) (stack : ℕ) (h : Sound s) where
 
 -- ---- launch or resume
 
--- host RSP is what the stack left: an injection and the window write other fields
-stack-kept : (v : Vmcs) (e : Core.Event) (a : Injection) → Sized v → valueOf (vmcsAfter v e a) VmcsHostNW.RSP ≡ valueOf v VmcsHostNW.RSP
-unfolding vmcsAfter
-stack-kept v e Empty z = refl
-stack-kept v e Held z = same-window VmcsHostNW.RSP (lit< tt) v z refl .value
-stack-kept v e Written z = same-injected VmcsHostNW.RSP (lit< tt) v e z refl refl refl .value
-
 module _ (s : Session) (stack : ℕ) (h : Sound s) where
   -- by the flag
   record Resumes (a : Entered) : Type 0 where
     resumed : a .resumed ≡ s .progress .launched
     rsp : valueOf (a .session .vmcs) VmcsHostNW.RSP ≡ cond (s .progress .launched) (valueOf (s .vmcs) VmcsHostNW.RSP) stack
 
-  rsp-after : (a : Injection) → valueOf (afterEntry s stack a .vmcs) VmcsHostNW.RSP ≡ cond (s .progress .launched) (valueOf (s .vmcs) VmcsHostNW.RSP) stack
-  unfolding afterEntry withStack
-  rsp-after a =
-      stack-kept _ (frontOf (s .queue)) a (same-stack VmcsReadOnly32.VMEXIT_INSTRUCTION_LEN (lit< tt) (s .vmcs) (s .progress .launched) stack (sound-sized s h) refl .sized)
-      ∙ go (s .progress .launched)
-    where
-      go : (b : Bool) → valueOf (withStack (s .vmcs) b stack) VmcsHostNW.RSP ≡ cond b (valueOf (s .vmcs) VmcsHostNW.RSP) stack
-      go true = refl
-      go false = put-own (s .vmcs) VmcsHostNW.RSP stack (sound-sized s h) (lit< tt)
-
   entry-resumes : isRefused (Entry.entry s stack .refusal) ≡ false → Resumes (Entry.entry s stack)
   entry-resumes =
       by-entry s stack (λ (a : Entered). isRefused (a .refusal) ≡ false → Resumes a) (λ n e f. impossible (sym f ∙ ap not e))
-      (λ _. record { resumed = refl; rsp = rsp-after (injectionOf (s .queue) (s .vmcs)) })
+      (λ _. record { resumed = refl; rsp = rsp-after begun s stack h (injectionOf (s .queue) (s .vmcs)) })
 
   -- by the entries counted
   entry-launches : (n : ℕ) → s .progress .launched ≡ not (eqb n 0) → isRefused (Entry.entry s stack .refusal) ≡ false
@@ -148,10 +128,10 @@ entry-valid t s stack v h k ok =
     let y = step t s (entry stack) v h in
     let n = accepted t s (entry stack) v h ok in
     let z : p .words .valid ≡ false = k (λ e. entry-ready p stack n (λ o. omega arith)) (λ e. entry-ready p stack n (λ o. omega arith)) in
-    let a = answerOn (p .pending) (p .words .flag) (p .words .interruptibility) in
+    let a = answerOn (p .pending) (p .words .interruptFlag) (p .words .interruptibility) in
     ap (λ (r : Reference). r .words .valid) (y .state) ∙ ap (λ (r : Bool). referenceStep p (entry stack) r .words .valid) ok
     ∙ ap (validBy a) z ∙ valid-written a
-    ∙ ap isWritten (sym (y .answer ∙ ap (referenceAnswer p (entry stack)) ok ∙ answer-moves (p .pending) (p .words .flag) (p .words .interruptibility)))
+    ∙ ap isWritten (sym (y .answer ∙ ap (referenceAnswer p (entry stack)) ok ∙ answer-moves (p .pending) (p .words .interruptFlag) (p .words .interruptibility)))
 
 -- ---- what an accepted entry answers
 
@@ -163,7 +143,7 @@ entry-answers : (t : Tally Event) (s : Session) (stack : ℕ) → WellTyped (ent
     → Answers (viewOf t s) (sessionStep s (entry stack) .answer)
 entry-answers t s stack v h ok =
     let p = viewOf t s in
-    let f = p .words .flag in
+    let f = p .words .interruptFlag in
     let i = p .words .interruptibility in
     let a = step t s (entry stack) v h .answer ∙ ap (referenceAnswer p (entry stack)) ok ∙ answer-moves (p .pending) f i in
     record {
@@ -274,7 +254,7 @@ whole-list calls w =
     let log = sessionLog newSession calls in
     let t = tallyOf log in
     let p = referenceAfter start (fed (historyOf newRecord calls)) in
-    let k = carry newRecord newSession calls w (holds-encoded newSession sound-new) sound-new in
+    let k = carry newRecord newSession calls w holds-new sound-new in
     let m = k .state in
     let r = run begun newSession calls w sound-new in
     let h = r .sound in
@@ -287,17 +267,14 @@ whole-list calls w =
     let ready : (stack : ℕ) → WellTyped (entry stack) → isRefused (stepOf b (entry stack) .refusal) ≡ false → Refuses (ownRules p (entry stack)) 0
     = λ stack v ok. subst (λ (q : Reference). Refuses (ownRules q (entry stack)) 0) at (accepted t s (entry stack) v h (ok-session b s m h (entry stack) v ok)) in
     record {
-      number = m .accepted;
-      state = (λ i. viewOf (tallyOf (k .history i)) (m .holds i)) ∙ at;
-      answered = ap Calls.answers (k .history) ∙ r .answered ∙ (λ i. referenceAnswers (view-new i) (on i));
+      accepted = m .accepted;
+      pending = ap waitingOf (m .holds) ∙ ap (λ (q : Reference). q .pending) at;
+      words = ap wordsOf (m .holds) ∙ ap (λ (q : Reference). q .words) at;
+      tally = ap tallyOf (k .history) ∙ sym same ∙ ap (λ (q : Reference). q .tally) at;
+      answered = ap answersOf (k .history) ∙ r .answered ∙ (λ i. referenceAnswers (view-new i) (on i));
       numbers = λ c v.
           inr (λ never. never, subst (Refuses (ownRules p c)) (sym (carried b s c v m h .refusal)) (subst (λ (q : Reference). Refuses (ownRules q c) (sessionStep s c .refusal)) at (step t s c v h .numbers)));
       unchanged = λ c v. carried b s c v m h .unchanged;
-      leaves = record {
-        frames = λ block x y z. setup-left block x y z b;
-        results = λ stack resumed injection. entry-results stack resumed injection b .left;
-        words = λ block words. report-results block words b .2;
-      };
       order = ap (λ (ls : List Logged). tallyOf ls .queued) (k .history) ∙ sym (line .order) ∙ (λ i. tallyOf (sym (k .history) i) .injected ++ waitingOf (sym (m .holds) i));
       entered = ap (λ (x : Session). x .progress .entries) (m .holds) ∙ ap (λ (x : Tally Event). x .entries) same ∙ ap (λ (ls : List Logged). tallyOf ls .entries) (sym (k .history));
       held = ap (λ (x : Session). x .progress .held) (m .holds) ∙ ap (λ (x : Tally Event). x .held) same ∙ ap (λ (ls : List Logged). tallyOf ls .held) (sym (k .history));
@@ -327,8 +304,8 @@ whole-list calls w =
           ∙ entry-valid t s stack v h (subst (λ (q : Reference). Clear (q .words)) (sym at) clear) (ok-session b s m h (entry stack) v ok)
           ∙ ap isWritten (sym (kc .answer));
       permitted = λ none block a c msr mem stack v ok.
-          subst (λ (x : Session). Permits (limitsOf (msrsOf block)) (x .vmcs)) (sym (carried b s (entry stack) v m h .state .holds))
-          (kept-permits (msrsOf block) (next s (entry stack))
+          subst (λ (x : Session). Permits (limitsOf block) (x .vmcs)) (sym (carried b s (entry stack) v m h .state .holds))
+          (kept-permits block (next s (entry stack))
           (enter-kept (capabilitiesOf (msrsOf block)) s stack
           (permits-since block a c msr newSession calls w sound-new
           (unwritten-at judgedFields (fed log) (subst (Unwritten judgedFields) (sym on) none))

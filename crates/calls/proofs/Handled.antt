@@ -32,7 +32,7 @@ use Rattle.vcpu_exit.specs.declared.Report.{Report}
 use Rattle.vcpu_report.specs.Handlers.{reportWrites, stored, timerSet, cr0Set, cr4Set, eferWrites, eferUpdated, crHandled, handledAs, handled, ripAdvanced, vmcsAfter}
 use Rattle.vcpu_report.specs.Laws.{oneOf}
 use Rattle.vcpu_report.proofs.Steps.{fieldsOf, untouched}
-use Rattle.calls.specs.Reference.{choose, basicReason, MovesTo, moves, movedBy, crValue, crMask, cr0Bounds, cr4Asked}
+use Rattle.calls.specs.Reference.{choose, basicReason, MovToCr, movToCr, movSource, crValue, crMask, cr0Bounds, cr4Asked}
 use Rattle.calls.specs.Calls.{limitsIn}
 use Rattle.calls.proofs.Choices.{choose-yes, choose-no, choose-ap}
 use Rattle.calls.proofs.ReportNumbers.{move-tells, access-tells, moved-agrees}
@@ -41,8 +41,8 @@ use Rattle.calls.proofs.ReportNumbers.{move-tells, access-tells, moved-
 
 module _ (c : Capabilities) (r : Report) (P : Vmcs → Type 0) (u : Vmcs) where
   by-handling : (basicReason r ≡ 7 → P (windowSet u false)) → (basicReason r ≡ 52 → P (timerSet u))
-      → (basicReason r ≡ 28 → MovesTo 4 r → P (cr4Set u (c .cr4) (movedValue r)))
-      → (basicReason r ≡ 28 → (MovesTo 4 r → ⊥) → P (cr0Set u (c .cr0) (movedValue r)))
+      → (basicReason r ≡ 28 → MovToCr 4 r → P (cr4Set u (c .cr4) (movedValue r)))
+      → (basicReason r ≡ 28 → (MovToCr 4 r → ⊥) → P (cr0Set u (c .cr0) (movedValue r)))
       → (P (cr0Set u (c .cr0) (movedValue r)) → P (eferUpdated (cr0Set u (c .cr0) (movedValue r)) (entryPair c) (r .efer)))
       → ((basicReason r ≡ 7 → ⊥) → (basicReason r ≡ 28 → ⊥) → P u) → P (handled u c r)
   unfolding handledAs crHandled
@@ -80,27 +80,27 @@ writes0 c r = cr0Writes (cr0Words (c .cr0 .fixed0) (c .cr0 .fixed1) (movedValue 
 
 module _ (c : Capabilities) (r : Report) (u : Vmcs) (f : Field) (h : placeOf f < sizeOf f) (x : ℕ) (held : Left f x u) where
   -- of a field that only moves to CR0 or CR4 write
-  moved-field : otherAccess r ≡ false → Free f → Left f (choose (moves 4 r) (lastOf (writes4 c r) f x) (choose (moves 0 r) (lastOf (writes0 c r) f x) x)) (handled u c r)
+  moved-field : otherAccess r ≡ false → Free f → Left f (choose (movToCr 4 r) (lastOf (writes4 c r) f x) (choose (movToCr 0 r) (lastOf (writes0 c r) f x) x)) (handled u c r)
   unfolding windowSet timerSet cr4Set cr0Set eferUpdated
   moved-field access free =
       by-handling c r (Left f y) u
       (λ e. kept (λ n. omega arith) (left-alone (VmcsControl32.PRIMARY_PROCBASED_EXEC_CONTROLS ≔ windowWord u false ∷ []) u f x h (free .primary) held))
       (λ e. kept (λ n. omega arith) (left-alone (VmcsGuest32.VMX_PREEMPTION_TIMER_VALUE ≔ VMX_PREEMPTION_TIMER_SET_VALUE ∷ []) u f x h (free .timer) held))
-      (λ e m. left-by (writes4 c r) u f x h held (sym (choose-yes (moves 4 r) _ _ (e, m))))
-      (λ e n. left-by (writes0 c r) u f x h held (sym (choose-no (moves 4 r) _ _ (λ m. n (m .1)) ∙ choose-yes (moves 0 r) _ _ (e, to-zero e n))))
+      (λ e m. left-by (writes4 c r) u f x h held (sym (choose-yes (movToCr 4 r) _ _ (e, m))))
+      (λ e n. left-by (writes0 c r) u f x h held (sym (choose-no (movToCr 4 r) _ _ (λ m. n (m .1)) ∙ choose-yes (movToCr 0 r) _ _ (e, to-zero e n))))
       (λ l. left-alone (eferWrites (updateEfer (entryPair c) (r .efer) (valueOf (applied (writes0 c r) u) VmcsControl32.VMENTRY_CONTROLS))) (applied (writes0 c r) u) f y h (free .efer) l)
       (λ _ n. kept n held)
     where
       y : ℕ
-      y = choose (moves 4 r) (lastOf (writes4 c r) f x) (choose (moves 0 r) (lastOf (writes0 c r) f x) x)
+      y = choose (movToCr 4 r) (lastOf (writes4 c r) f x) (choose (movToCr 0 r) (lastOf (writes0 c r) f x) x)
 
       kept : {t : Vmcs} → (basicReason r ≡ 28 → ⊥) → Left f x t → Left f y t
-      kept n l = record { sized = l .sized; value = l .value ∙ sym (choose-no (moves 4 r) _ _ (λ m. n (m .0)) ∙ choose-no (moves 0 r) _ _ (λ m. n (m .0))) }
+      kept n l = record { sized = l .sized; value = l .value ∙ sym (choose-no (movToCr 4 r) _ _ (λ m. n (m .0)) ∙ choose-no (movToCr 0 r) _ _ (λ m. n (m .0))) }
 
-      to-zero : basicReason r ≡ 28 → (MovesTo 4 r → ⊥) → MovesTo 0 r
+      to-zero : basicReason r ≡ 28 → (MovToCr 4 r → ⊥) → MovToCr 0 r
       to-zero e n = go (isMoveTo r 0) refl
         where
-          go : (t : Bool) → isMoveTo r 0 ≡ t → MovesTo 0 r
+          go : (t : Bool) → isMoveTo r 0 ≡ t → MovToCr 0 r
           go true t = move-tells r 0 .yes-so t
           go false t = absurd (access-tells r .not-so access (e, λ m. elim m [ inl a ↦ move-tells r 0 .not-so t a | inr b ↦ n b ]))
 
@@ -156,11 +156,11 @@ module _ (v : Vmcs) (c : Capabilities) (r : Report) (sized : Sized v) where
       ∙ ap (λ (b : Bool). choose (ℕ-discrete (basicReason r) 7) b (bit 2 (valueOf v f))) (bit-and 2 (valueOf (stored v r) f) (bitNot 32 (2 ^ 2)) ∙ and-false (bit 2 (valueOf (stored v r) f)))
 
   module _ (access : otherAccess r ≡ false) where
-    apart : (basicReason r ≡ 28) × MovesTo 4 r → (basicReason r ≡ 28) × MovesTo 0 r → ⊥
+    apart : (basicReason r ≡ 28) × MovToCr 4 r → (basicReason r ≡ 28) × MovToCr 0 r → ⊥
     apart a b = omega (arith, a .1 .1, b .1 .1)
 
     moved-left : (f : Field) → placeOf f < sizeOf f → oneOf (VmcsGuestNW.RIP ∷ []) f ≡ false → Free f → {x : ℕ} → lastOf (reportWrites v r) f (valueOf v f) ≡ x
-        → valueOf (vmcsAfter v c r) f ≡ choose (moves 4 r) (lastOf (writes4 c r) f x) (choose (moves 0 r) (lastOf (writes0 c r) f x) x)
+        → valueOf (vmcsAfter v c r) f ≡ choose (movToCr 4 r) (lastOf (writes4 c r) f x) (choose (movToCr 0 r) (lastOf (writes0 c r) f x) x)
     moved-left f h e free {x} is =
         let l = stored-left f h in
         advanced f h e (moved-field c r (stored v r) f h x (record { sized = l .sized; value = l .value ∙ is }) access free)
@@ -169,20 +169,20 @@ module _ (v : Vmcs) (c : Capabilities) (r : Report) (sized : Sized v) where
         → oneOf (VmcsGuest64.IA32_EFER ∷ VmcsControl32.VMENTRY_CONTROLS ∷ []) f ≡ false → Free f
     freely a b d = record { primary = a; timer = b; efer = d }
 
-    pub exit-cr0 : valueOf (vmcsAfter v c r) VmcsGuestNW.CR0 ≡ choose (moves 0 r) (crValue (cr0Bounds (limitsIn c)) (movedBy r)) (r .cr0)
+    pub exit-cr0 : valueOf (vmcsAfter v c r) VmcsGuestNW.CR0 ≡ choose (movToCr 0 r) (crValue (cr0Bounds (limitsIn c)) (movSource r)) (r .cr0)
     exit-cr0 =
-        moved-left VmcsGuestNW.CR0 (lit< tt) refl (freely refl refl refl) refl ∙ first-keeps (moves 4 r) (moves 0 r) _ _ apart
-        ∙ ap (λ (x : ℕ). choose (moves 0 r) (crValue (cr0Bounds (limitsIn c)) x) (r .cr0)) (moved-agrees r)
+        moved-left VmcsGuestNW.CR0 (lit< tt) refl (freely refl refl refl) refl ∙ first-keeps (movToCr 4 r) (movToCr 0 r) _ _ apart
+        ∙ ap (λ (x : ℕ). choose (movToCr 0 r) (crValue (cr0Bounds (limitsIn c)) x) (r .cr0)) (moved-agrees r)
 
     pub exit-cr0-mask : valueOf (vmcsAfter v c r) VmcsControlNW.CR0_GUEST_HOST_MASK
-        ≡ choose (moves 0 r) (crMask (cr0Bounds (limitsIn c))) (valueOf v VmcsControlNW.CR0_GUEST_HOST_MASK)
-    exit-cr0-mask = moved-left VmcsControlNW.CR0_GUEST_HOST_MASK (lit< tt) refl (freely refl refl refl) refl ∙ first-keeps (moves 4 r) (moves 0 r) _ _ apart
+        ≡ choose (movToCr 0 r) (crMask (cr0Bounds (limitsIn c))) (valueOf v VmcsControlNW.CR0_GUEST_HOST_MASK)
+    exit-cr0-mask = moved-left VmcsControlNW.CR0_GUEST_HOST_MASK (lit< tt) refl (freely refl refl refl) refl ∙ first-keeps (movToCr 4 r) (movToCr 0 r) _ _ apart
 
-    pub exit-cr4 : valueOf (vmcsAfter v c r) VmcsGuestNW.CR4 ≡ choose (moves 4 r) (crValue (limitsIn c .cr4) (cr4Asked (movedBy r))) (r .cr4)
+    pub exit-cr4 : valueOf (vmcsAfter v c r) VmcsGuestNW.CR4 ≡ choose (movToCr 4 r) (crValue (limitsIn c .cr4) (cr4Asked (movSource r))) (r .cr4)
     exit-cr4 =
-        moved-left VmcsGuestNW.CR4 (lit< tt) refl (freely refl refl refl) refl ∙ second-keeps (moves 4 r) (moves 0 r) _ _
-        ∙ ap (λ (x : ℕ). choose (moves 4 r) (crValue (limitsIn c .cr4) (cr4Asked x)) (r .cr4)) (moved-agrees r)
+        moved-left VmcsGuestNW.CR4 (lit< tt) refl (freely refl refl refl) refl ∙ second-keeps (movToCr 4 r) (movToCr 0 r) _ _
+        ∙ ap (λ (x : ℕ). choose (movToCr 4 r) (crValue (limitsIn c .cr4) (cr4Asked x)) (r .cr4)) (moved-agrees r)
 
     pub exit-cr4-mask : valueOf (vmcsAfter v c r) VmcsControlNW.CR4_GUEST_HOST_MASK
-        ≡ choose (moves 4 r) (crMask (limitsIn c .cr4)) (valueOf v VmcsControlNW.CR4_GUEST_HOST_MASK)
-    exit-cr4-mask = moved-left VmcsControlNW.CR4_GUEST_HOST_MASK (lit< tt) refl (freely refl refl refl) refl ∙ second-keeps (moves 4 r) (moves 0 r) _ _
+        ≡ choose (movToCr 4 r) (crMask (limitsIn c .cr4)) (valueOf v VmcsControlNW.CR4_GUEST_HOST_MASK)
+    exit-cr4-mask = moved-left VmcsControlNW.CR4_GUEST_HOST_MASK (lit< tt) refl (freely refl refl refl) refl ∙ second-keeps (movToCr 4 r) (movToCr 0 r) _ _

@@ -15,7 +15,7 @@ use Rattle.vcpu_events.specs.declared.Injection.{Injection}
 use Rattle.vcpu_events.specs.declared.Injection.the-variants.{Held, Written}
 use Rattle.blocks.specs.ReportBlock.{reportOf}
 use Rattle.calls.specs.Moves.{Move, fails, exits, tallied}
-use Rattle.calls.specs.Reference.{Call, setup, queueEvent, injectInterrupt, entry, exitReport, apicValue, fieldWrite, registerWrite, Event, entryMove, answerOn, isHeld, waits, Words, inPhase, atExit, wordsBy, Reference, moveOn, accept, referenceStep, referenceAfter, Fed, ownRules}
+use Rattle.calls.specs.Reference.{Call, setup, queueEvent, injectInterrupt, entry, exitReport, apicValue, fieldWrite, registerWrite, Event, entryMove, answerOn, isHeld, awaitsValue, Words, inPhase, atExit, wordsBy, Reference, moveOn, accept, referenceStep, referenceAfter, Fed, ownRules}
 use Rattle.calls.specs.Calls.{writesField, written}
 use Rattle.calls.specs.DemandThree.{acceptedSetup, NoSetup, OneSetup}
 use Rattle.calls.proofs.Choices.{choose-no, choose-all}
@@ -77,10 +77,10 @@ Launched p = p .words .launched ≡ not (eqb (p .tally .entries) 0)
 entry-counts : (p : Reference) (stack : ℕ) → tallied (p .tally) (moveOn p (entry stack)) .entries ≡ p .tally .entries + 1
 entry-counts p stack = go (p .pending)
   where
-    go : (w : List Event) → tallied (p .tally) (entryMove (answerOn w (p .words .flag) (p .words .interruptibility)) w) .entries ≡ p .tally .entries + 1
+    go : (w : List Event) → tallied (p .tally) (entryMove (answerOn w (p .words .interruptFlag) (p .words .interruptibility)) w) .entries ≡ p .tally .entries + 1
     go [] = refl
     go (e ∷ w) = choose-all (λ (a : Injection). tallied (p .tally) (entryMove a (e ∷ w)) .entries ≡ p .tally .entries + 1)
-        (isHeld (e .vector) (p .words .flag) (p .words .interruptibility)) Held Written refl refl
+        (isHeld (e .vector) (p .words .interruptFlag) (p .words .interruptibility)) Held Written refl refl
 
 launched-accepted : (p : Reference) (c : Call) → Launched p → Launched (accept p c)
 launched-accepted p (setup block a b msr) k = k
@@ -114,7 +114,7 @@ phase-accepted p (injectInterrupt vector) n = n
 phase-accepted p (entry stack) n = λ e. omega arith
 phase-accepted p (exitReport block) n =
     cond-all (λ (x : Words). x .phase ≢ 0) (bit 31 (reportOf block .reason)) _ _ (λ _ e. omega arith)
-    (λ _. choose-all (λ (x : ℕ). x ≢ 0) (waits (reportOf block)) 3 1 (λ e. omega arith) (λ e. omega arith))
+    (λ _. choose-all (λ (x : ℕ). x ≢ 0) (awaitsValue (reportOf block)) 3 1 (λ e. omega arith) (λ e. omega arith))
 phase-accepted p (apicValue value) n = λ e. omega arith
 phase-accepted p (fieldWrite encoding value) n = n
 phase-accepted p (registerWrite index value) n = n

@@ -53,15 +53,15 @@ use Rattle.blocks.specs.ReportBlock as Report
 use Rattle.blocks.specs.ReportBlock.{reportOf}
 use Rattle.vcpu_report.proofs.ReportLaws.{report-laws}
 use Rattle.calls.specs.Reference as Reference
-use Rattle.calls.specs.Reference.{Call, setup, queueEvent, injectInterrupt, entry, exitReport, apicValue, fieldWrite, registerWrite, WellTyped, AllWellTyped, limitsOf, Reference, Fed}
+use Rattle.calls.specs.Reference.{Call, setup, queueEvent, injectInterrupt, entry, exitReport, apicValue, fieldWrite, registerWrite, WellTyped, AllWellTyped, Limits, limitsOf, Reference, Fed}
 use Rattle.calls.specs.Moves.{begun}
-use Rattle.calls.specs.Calls.{isRefused, fed, writesField, written, viewOf}
+use Rattle.calls.specs.Calls.{limitsIn, isRefused, fed, writesField, written}
 use Rattle.calls.specs.DemandThree as Demand
 use Rattle.calls.specs.DemandThree.{Unwritten, Permits}
 use Rattle.calls.proofs.RawWrites.{other-field}
 use Rattle.calls.proofs.Fields.{stack-keeps, injection-keeps}
-use Rattle.calls.proofs.Sessions.{hasBuffers, next, sessionAfter, sessionLogged, sessionLog, Sound, sound-sized}
-use Rattle.calls.proofs.SetupNumbers.{consistent-of}
+use Rattle.calls.proofs.Sessions.{hasBuffers, next, sessionAfter, sessionLogged, sessionLog, Sound, sound-sized, viewOf}
+use Rattle.calls.proofs.SetupNumbers.{consistent-of, same-limits}
 use Rattle.calls.proofs.SetupFits.{typed}
 use Rattle.calls.proofs.ReportFits.{FitsReport, block-fits}
 use Rattle.calls.proofs.Fits.{sound-step}
@@ -238,7 +238,7 @@ consistent-kept m fixed e =
       cr4Fits = fixed .cr4fixed1;
     }
   where
-    each : Reference.Consistent (limitsOf m) → (k : ℕ) → k < 5 → Within (pairAt (pairsOf m) k .allowed0) (pairAt (pairsOf m) k .allowed1)
+    each : Reference.Consistent (limitsIn (capabilitiesOf m)) → (k : ℕ) → k < 5 → Within (pairAt (pairsOf m) k .allowed0) (pairAt (pairsOf m) k .allowed1)
     each c zero h = c .pin
     each c (suc zero) h = c .primary
     each c (suc (suc zero)) h = c .secondary
@@ -308,9 +308,9 @@ permits-since block a b msr s (c ∷ cs) w h n m =
 no-bit : (i : ℕ) → T (bit i 0) → ⊥
 no-bit i t = rw (bit-of-zero i) at t
 
--- permitted by what the core keeps, and by the MSRs that setup was given
-permits-of : (m : CapabilityMsrs) (v : Vmcs) → AllPermitted (capabilitiesOf m) v → Permits (limitsOf m) v
-permits-of m v a =
+-- the core's claim over what it keeps is the claim over the limits
+permits-of : (c : Capabilities) (v : Vmcs) → AllPermitted c v → Permits (limitsIn c) v
+permits-of c v a =
     record {
       pin = a .pin;
       primaryMust = a .primary .required;
@@ -323,5 +323,7 @@ permits-of m v a =
       cr4 = record { required = record { has = λ i t. a .cr4 .required i t (no-bit i) }; allowed = a .cr4 .allowed };
     }
 
-pub kept-permits : (m : CapabilityMsrs) (s : Session) → Kept (capabilitiesOf m) s → Permits (limitsOf m) (s .vmcs)
-kept-permits m s k = permits-of m (s .vmcs) (sound-permitted (capabilitiesOf m) (s .vmcs) (k .consistent) (k .fields .words))
+pub kept-permits : (block : List ℕ) (s : Session) → Kept (capabilitiesOf (msrsOf block)) s → Permits (limitsOf block) (s .vmcs)
+kept-permits block s k =
+    let c = capabilitiesOf (msrsOf block) in
+    subst (λ (l : Limits). Permits l (s .vmcs)) (same-limits block) (permits-of c (s .vmcs) (sound-permitted c (s .vmcs) (k .consistent) (k .fields .words)))

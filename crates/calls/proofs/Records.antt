@@ -36,7 +36,7 @@ use Rattle.call_specs.specs.ReportCall.{ReportCall, reportAnswer, reportAccepts
 use Rattle.call_specs.specs.SetupCall.{setupAccepts, setupCall}
 use Rattle.calls.specs.Reference.{Call, setup, queueEvent, injectInterrupt, entry, exitReport, apicValue, fieldWrite, registerWrite, WellTyped, AllWellTyped}
 use Rattle.calls.specs.Moves.{begun}
-use Rattle.calls.specs.Calls.{reported, Outcome, plain, framed, numbered, entered, stepOf, waitingOf, after, historyOf, isRefused}
+use Rattle.calls.specs.Calls.{reported, Outcome, plain, framed, numbered, entered, stepOf, waitingOf, newRecord, after, historyOf, isRefused, answerNumber}
 use Rattle.calls.proofs.Choices.{impossible}
 use Rattle.calls.proofs.Sessions.{hasBuffers, left, entering, sessionStep, next, sessionAfter, sessionLog, Sound}
 use Rattle.calls.proofs.Fits.{sound-step}
@@ -70,6 +70,11 @@ call-carried f b s m same h =
     (cond-all (λ (o : Encoded). Carried b (plain o) (left (f s))) (eqb (f s .refusal) 0) _ _
     (λ t. record { refusal = sym (eqb-true _ _ t); answer = refl; resumed = refl; state = holds-encoded (f s .session) h; unchanged = impossible })
     (λ t. record { refusal = refl; answer = refl; resumed = refl; state = record { accepted = m .accepted; holds = m .holds ∙ sym (same (ap not t)) }; unchanged = λ _. refl }))
+
+same-number : (a : Injection) → injectionNumber a ≡ answerNumber a
+same-number Empty = refl
+same-number Held = refl
+same-number Written = refl
 
 numbered-back : (a : Injection) → numbered (injectionNumber a) ≡ a
 numbered-back Empty = refl
@@ -113,7 +118,7 @@ pub record Results (b : List ℕ) (stack resumed injection : ℕ) : Type 0 where
   pub refusal : entryCall stack b resumed injection .refusal ≡ stepOf b (entry stack) .refusal
   pub bytes : entryCall stack b resumed injection .bytes ≡ stepOf b (entry stack) .state
   pub answer : isRefused (stepOf b (entry stack) .refusal) ≡ false
-      → entryCall stack b resumed injection .injection ≡ injectionNumber (stepOf b (entry stack) .answer)
+      → entryCall stack b resumed injection .injection ≡ answerNumber (stepOf b (entry stack) .answer)
   pub resumes : isRefused (stepOf b (entry stack) .refusal) ≡ false → entryCall stack b resumed injection .resumed ≡ flag (stepOf b (entry stack) .resumed)
   -- a refused one stores nothing
   pub left : isRefused (stepOf b (entry stack) .refusal) ≡ true
@@ -138,10 +143,10 @@ entry-results stack resumed injection b =
 
     go : (t u : Bool) → eqb (o .refusal) 0 ≡ u
         → (made resumed injection t u .refusal ≡ made 0 0 t u .refusal) × (made resumed injection t u .bytes ≡ made 0 0 t u .bytes)
-        × (isRefused (made 0 0 t u .refusal) ≡ false → made resumed injection t u .injection ≡ injectionNumber (numbered (made 0 0 t u .injection)))
+        × (isRefused (made 0 0 t u .refusal) ≡ false → made resumed injection t u .injection ≡ answerNumber (numbered (made 0 0 t u .injection)))
         × (isRefused (made 0 0 t u .refusal) ≡ false → made resumed injection t u .resumed ≡ flag (eqb (made 0 0 t u .resumed) 1))
         × (isRefused (made 0 0 t u .refusal) ≡ true → made resumed injection t u ≡ entryAnswer (made 0 0 t u .refusal) b resumed injection)
-    go true true e = (refl, refl, λ _. ap injectionNumber (sym (numbered-back (o .injection))), λ _. ap flag (sym (flag-back (o .resumed))), impossible)
+    go true true e = (refl, refl, λ _. same-number (o .injection) ∙ ap answerNumber (sym (numbered-back (o .injection))), λ _. ap flag (sym (flag-back (o .resumed))), impossible)
     go true false e = (refl, refl, λ f. absurd (true≢false (sym (ap not e) ∙ f)), λ f. absurd (true≢false (sym (ap not e) ∙ f)), λ _. refl)
     go false u e = (refl, refl, λ f. absurd (true≢false f), λ f. absurd (true≢false f), λ _. refl)
 
@@ -305,3 +310,6 @@ sound-new =
       fits = subst Fitting (ap (λ (d : Decoded). d .session) (refused-decoded [] no-bytes)) (faithful .fitting [] (λ i. lit< tt));
       lawful = record { phase = zero-le; waiting = zero-le; held = zero-le };
     }
+
+pub holds-new : Holds newRecord newSession
+holds-new = subst (λ (b : List ℕ). Holds b newSession) (faithful .new) (holds-encoded newSession sound-new)

@@ -30,7 +30,7 @@ use Rattle.vcpu_exit.specs.Reading.{isApic, registerOf, movedValue, isMoveTo, t
 use Rattle.vcpu_exit.specs.Refusal.{unknownReason, ownedBitsDiffer, noInterrupt, otherAccess, otherXcr, eferRefusal, entryPair, exitRefusal, reportRefusal}
 use Rattle.vcpu_exit.specs.declared.Report.{Report}
 use Rattle.vcpu_report.specs.ExitReport.{phaseAfter}
-use Rattle.calls.specs.Reference.{choose, both, either, basicReason, ecxOf, NamesApic, namesApic, waits, Agree, MovesTo, movedBy, advance, UnknownReason, SetsIa32e, exitRules, reportRules}
+use Rattle.calls.specs.Reference.{choose, both, either, basicReason, ecxOf, NamesApic, namesApic, awaitsValue, Agree, MovToCr, movSource, advance, UnknownReason, SetsIa32e, exitRules, reportRules}
 use Rattle.calls.specs.Calls.{wordsOf}
 use Rattle.calls.proofs.Choices.{chosen}
 
@@ -46,19 +46,19 @@ apic-tells : (r : Report) → Tells (isApic (r .regs .rcx)) (NamesApic r)
 unfolding isApic
 apic-tells r = tells-and (tells-leb 0x800 (ecxOf r)) (tells-leb (ecxOf r) 0x8FF)
 
-pub phase-agrees : (r : Report) → phaseAfter r ≡ choose (waits r) 3 1
+pub phase-agrees : (r : Report) → phaseAfter r ≡ choose (awaitsValue r) 3 1
 unfolding phaseAfter
-phase-agrees r = join (eqb (basicReason r) 31) (isApic (r .regs .rcx)) ∙ picks (tells-and (tells-eq (basicReason r) 31) (apic-tells r)) (waits r) 3 1
+phase-agrees r = join (eqb (basicReason r) 31) (isApic (r .regs .rcx)) ∙ picks (tells-and (tells-eq (basicReason r) 31) (apic-tells r)) (awaitsValue r) 3 1
   where
     join : (a b : Bool) → cond {A = ℕ} a (cond b 3 1) 1 ≡ cond (a && b) 3 1
     join true b = refl
     join false b = refl
 
-pub move-tells : (r : Report) (n : ℕ) → Tells (isMoveTo r n) (MovesTo n r)
+pub move-tells : (r : Report) (n : ℕ) → Tells (isMoveTo r n) (MovToCr n r)
 unfolding isMoveTo
 move-tells r n = tells-and (tells-eq (r .qualification / 2 ^ 4 % 4) 0) (tells-eq (r .qualification % 2 ^ 4) n)
 
-pub moved-agrees : (r : Report) → movedValue r ≡ movedBy r
+pub moved-agrees : (r : Report) → movedValue r ≡ movSource r
 unfolding movedValue registerOf
 moved-agrees r =
     let i = r .qualification / 2 ^ 8 % 2 ^ 4 in
@@ -147,7 +147,7 @@ interrupt-tells r =
     tells-and (tells-eq (basicReason r) 1)
     (tells-or (tells-off (bit 31 (r .interruption))) (tells-is (ap (λ (n : ℕ). eqb n 1) (type-number k (omega arith))) (tells-eq k 1)))
 
-pub access-tells : (r : Report) → Tells (otherAccess r) ((basicReason r ≡ 28) × (MovesTo 0 r ⊎ MovesTo 4 r → ⊥))
+pub access-tells : (r : Report) → Tells (otherAccess r) ((basicReason r ≡ 28) × (MovToCr 0 r ⊎ MovToCr 4 r → ⊥))
 unfolding otherAccess
 access-tells r = tells-and (tells-eq (basicReason r) 28) (tells-not (tells-or (move-tells r 0) (move-tells r 4)))
 
@@ -177,10 +177,10 @@ long-tells : (r : Report) → Tells (isLongMode (r .efer)) ((bit 8 (r .efer) ≡
 unfolding isLongMode
 long-tells r = tells-and (tells-on (bit 8 (r .efer))) (tells-on (bit 10 (r .efer)))
 
-paging-tells : (r : Report) → Tells (turnsPagingOn r) (((basicReason r ≡ 28) × MovesTo 0 r) × (bit 31 (movedBy r) ≡ true))
+paging-tells : (r : Report) → Tells (turnsPagingOn r) (((basicReason r ≡ 28) × MovToCr 0 r) × (bit 31 (movSource r) ≡ true))
 unfolding turnsPagingOn
 paging-tells r =
-    tells-and (tells-and (tells-eq (basicReason r) 28) (move-tells r 0)) (tells-is (ap (bit 31) (moved-agrees r)) (tells-on (bit 31 (movedBy r))))
+    tells-and (tells-and (tells-eq (basicReason r) 28) (move-tells r 0)) (tells-is (ap (bit 31) (moved-agrees r)) (tells-on (bit 31 (movSource r))))
 
 -- the three tests of 8, joined
 abbrev stuck : Pair → Report → Bool

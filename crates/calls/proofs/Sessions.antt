@@ -22,8 +22,9 @@ use Rattle.blocks.specs.ReportBlock as Report
 use Rattle.blocks.specs.ReportBlock.{reportOf}
 use Rattle.record.specs.Fitting.{Fitting}
 use Rattle.call_specs.specs.Records.{queueStep}
-use Rattle.calls.specs.Reference.{Call, setup, queueEvent, injectInterrupt, entry, exitReport, apicValue, fieldWrite, registerWrite}
-use Rattle.calls.specs.Calls.{Outcome, Logged, waitingOf, afterAll, logged, logOf}
+use Rattle.calls.specs.Moves.{Tally}
+use Rattle.calls.specs.Reference.{Call, setup, queueEvent, injectInterrupt, entry, exitReport, apicValue, fieldWrite, registerWrite, Event, Reference}
+use Rattle.calls.specs.Calls.{Outcome, Logged, waitingOf, wordsOf, afterAll, logged, logOf}
 use Rattle.calls.proofs.Fields.{fits-sized}
 
 -- the buffers of setup but the record
@@ -74,3 +75,12 @@ sound-sized s h = fits-sized (s .vmcs) (h .fits .vmcs)
 -- as many codes as vectors
 pub sound-alike : (s : Session) → Sound s → length (s .queue .codes) ≡ length (s .queue .vectors)
 sound-alike s h = h .fits .queue .codes .sized ∙ sym (h .fits .queue .vectors .sized)
+
+-- what the reference has of a session, once these events were queued and injected: the counts are the session's
+abbrev pub viewOf : Tally Event → Session → Reference
+viewOf t s =
+    record {
+      tally = record { queued = t .queued; injected = t .injected; entries = s .progress .entries; held = s .progress .held };
+      pending = waitingOf s;
+      words = wordsOf s;
+    }

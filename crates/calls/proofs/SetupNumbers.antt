@@ -22,10 +22,9 @@ use Rattle.vcpu_session.specs.declared.Session.{Session}
 use Rattle.vcpu_setup.specs.Capability.{capabilitiesOf}
 use Rattle.vcpu_setup.specs.Words.{secondarySet, bitsRefusal, orElse, wordsRefusal}
 use Rattle.vcpu_setup.specs.Setup.{consistent, capabilityRefusal, setupRefusal}
-use Rattle.vcpu_setup.specs.declared.CapabilityMsrs.{CapabilityMsrs}
 use Rattle.vcpu_setup.specs.declared.Features.{Features}
 use Rattle.blocks.specs.SetupLayout as Layout
-use Rattle.blocks.specs.SetupBlock.{blockAccepted}
+use Rattle.blocks.specs.SetupBlock.{blockAccepted, msrsOf}
 use Rattle.calls.specs.Reference.{Buffers, limitsOf, Consistent, wordRules, setupRules}
 use Rattle.calls.specs.Calls.{pairBounds, limitsIn}
 use Rattle.calls.proofs.Sessions.{hasBuffers}
@@ -182,6 +181,7 @@ setup-refuses s c f l =
     (cond-all (Refuses (setupRules (limitsIn c) f)) (consistent c) _ _ (λ u. words-refuse c f (consistent-of c u))
     (λ u. inl (consistent-tells c .not-so u, refl))))
 
--- the limits that the core takes from the MSRs are the reference's
-pub same-limits : (m : CapabilityMsrs) → limitsIn (capabilitiesOf m) ≡ limitsOf m
-same-limits m = refl
+-- the limits that the core takes from the block's MSRs are the reference's
+pub same-limits : (block : List ℕ) → limitsIn (capabilitiesOf (msrsOf block)) ≡ limitsOf block
+unfolding msrsOf
+same-limits block = refl

@@ -3,7 +3,7 @@ use Prim.Native.Nat.{ℕ, zero, suc, _+_, _-_, _/_, _%_, _^_, _<_, _≤_}
 use mathlib.Core.Path.{_≡_, refl, sym, ap, _∙_, subst}
 use mathlib.Core.Bool.{Bool, true, false, cond, not, _&&_, _||_, or-true, true≢false}
 use mathlib.Core.List.{List, [], _∷_, _++_, List·Memᴰ}
-use mathlib.Core.Logic.{_⊎_, inl, inr}
+use mathlib.Core.Logic.{_⊎_, _≢_, inl, inr}
 use native.Mathlib.Decide.{ℕ-discrete}
 use native.Mathlib.Omega.{arith}
 use native.Mathlib.Numerals.{add-one}
@@ -23,6 +23,7 @@ use Rattle.vmcs.specs.Names.VmcsControl32 as VmcsControl32
 use Rattle.vmcs.specs.Names.VmcsControlNW as VmcsControlNW
 use Rattle.vmcs.specs.Names.VmcsGuest32 as VmcsGuest32
 use Rattle.vmcs.specs.Names.VmcsGuestNW as VmcsGuestNW
+use Rattle.vmcs.specs.Names.VmcsHostNW as VmcsHostNW
 use Rattle.vmcs.specs.Names.VmcsReadOnly32 as VmcsReadOnly32
 use Rattle.vmcs.specs.declared.Written.{Written as FieldsWritten}
 use Rattle.vmcs.proofs.TableTest.{table}
@@ -42,7 +43,7 @@ use Rattle.vcpu_events.specs.declared.Injection.{Injection}
 use Rattle.vcpu_events.specs.declared.Injection.the-variants.{Empty, Held, Written}
 use Rattle.vcpu_events.specs.Access as Access
 use Rattle.vcpu_events.specs.Access.{fieldsWritten, registersWritten}
-use Rattle.vcpu_setup.specs.Setup.{setupOf}
+use Rattle.vcpu_setup.specs.Setup.{setupRefusal, setupOf}
 use Rattle.vcpu_setup.specs.Writes.{setupWrites}
 use Rattle.vcpu_setup.specs.declared.Arguments.{Arguments}
 use Rattle.vmcs.specs.Writes.{Sized}
@@ -57,6 +58,7 @@ use Rattle.vcpu_exit.proofs.Passes.{passes}
 use Rattle.vcpu_report.specs.ExitReport as Exit
 use Rattle.vcpu_report.specs.Handlers as Handlers
 use Rattle.blocks.specs.ReportLayout as ReportLayout
+use Rattle.blocks.specs.SetupLayout as Layout
 use Rattle.blocks.specs.ReportBlock.{reportOf}
 use Rattle.vcpu_report.specs.Laws.{oneOf}
 use Rattle.vcpu_report.proofs.ReportLaws.{exit-is, report-laws}
@@ -65,15 +67,15 @@ use Rattle.call_specs.specs.Records.{queueStep}
 use Rattle.bits.specs.Refuses.{by, Refuses}
 use Rattle.bits.proofs.Tells.{Tells, tells-eq, tells-leb, tells-and, tells-or, tells-not, tells-as, cond-all}
 use Rattle.calls.specs.Moves.{Move, queues, exits, fails, rests, moved, answerOf, Tally, tallied}
-use Rattle.calls.specs.Reference.{choose, Call, setup, queueEvent, injectInterrupt, entry, exitReport, apicValue, fieldWrite, registerWrite, WellTyped, Event, entryMove, moveBy, IsHeld, isHeld, answerOn, moveOn, Reference, validBy, windowBy, inPhase, atSetup, atEntry, atExit, atFieldWrite, wordsBy, referenceStep, referenceAnswer, Buffers, reportRules, ownRules}
-use Rattle.calls.specs.Calls.{Outcome, Logged, isRefused, eventOf, eventsOf, waitingOf, limitsIn, wordsOf, viewOf, moveOf}
+use Rattle.calls.specs.Reference.{choose, Call, setup, queueEvent, injectInterrupt, entry, exitReport, apicValue, fieldWrite, registerWrite, WellTyped, Event, entryMove, moveBy, Limits, msrAt, IsHeld, isHeld, answerOn, moveOn, Reference, validBy, windowBy, inPhase, atSetup, atEntry, atExit, atFieldWrite, wordsBy, referenceStep, referenceAnswer, Buffers, setupRules, reportRules, ownRules}
+use Rattle.calls.specs.Calls.{Outcome, Logged, isRefused, eventOf, eventsOf, waitingOf, limitsIn, wordsOf, moveOf}
 use Rattle.calls.proofs.Choices.{impossible, choose-no, choose-ap}
 use Rattle.calls.proofs.Events.{events-set, events-long, events-shifted, events-front}
 use Rattle.calls.proofs.RawWrites.{Names, raw-read, placed-listed, listed-placed}
 use Rattle.calls.proofs.WordBits.{tabled}
 use Rattle.calls.proofs.Fields.{put-own, same-stack, same-window, same-injected, entryFields, same-entered, injected-word}
-use Rattle.calls.proofs.Sessions.{hasBuffers, left, entering, sessionStep, Sound, sound-sized, sound-alike}
-use Rattle.calls.proofs.SetupNumbers.{buffers-of, of-buffers, setup-refuses}
+use Rattle.calls.proofs.Sessions.{hasBuffers, left, entering, sessionStep, Sound, sound-sized, sound-alike, viewOf}
+use Rattle.calls.proofs.SetupNumbers.{buffers-of, of-buffers, setup-refuses, same-limits}
 use Rattle.calls.proofs.SetupFits.{typed}
 use Rattle.calls.proofs.Handled.{exit-window, exit-cr0, exit-cr0-mask, exit-cr4, exit-cr4-mask}
 use Rattle.calls.proofs.ReportNumbers.{picks, phase-agrees, report-refuses}
@@ -112,7 +114,7 @@ module _ (t : Tally Event) (s : Session) (c : Call) where
       → Refuses (ownRules (viewOf t s) c) 0 → Stepped t s c (left (answered 0 r))
   quiet r m q is qs es hs ws n =
       let w = waitingOf s in
-      let a = answerOn w (wordsOf s .flag) (wordsOf s .interruptibility) in
+      let a = answerOn w (wordsOf s .interruptFlag) (wordsOf s .interruptibility) in
       record {
         move = is Empty w ∙ sym (is a w);
         state = λ i. record {
@@ -153,7 +155,7 @@ module _ (t : Tally Event) (s : Session) (c : Call) where
       = ap (take (k + 1)) (events-set (s .queue .vectors) (s .queue .coded) (s .queue .codes) k (e .vector) (e .coded) (cond (e .coded) (e .code) 0))
       ∙ ap (λ (m : ℕ). take m (set l k stored)) (add-one k) ∙ take-suc-set l k stored long
       ∙ ap (λ (y : Event). w ++ (y ∷ [])) (code-kept (e .vector) (e .coded) (e .code)) in
-      let a = answerOn w (wordsOf s .flag) (wordsOf s .interruptibility) in
+      let a = answerOn w (wordsOf s .interruptFlag) (wordsOf s .interruptibility) in
       let on : moveOf (loggedAs s c (left (answered 0 s))) ≡ queues ev = is Empty w in
       record {
         move = is Empty w ∙ sym (is a w);
@@ -205,18 +207,19 @@ first-window must may old h =
     go false true false = refl
     go false false o = refl
 
-setup-words : (s r : Session) (x : Arguments) → SetUp s x r → wordsOf r ≡ atSetup (wordsOf s) (x .msrs)
-unfolding setupWrites setupWords
-setup-words s r x u =
-    let m = x .msrs in
+setup-words : (s r : Session) (block : List ℕ) → SetUp s (argumentsOf block) r → wordsOf r ≡ atSetup (wordsOf s) block
+unfolding setupWrites setupWords argumentsOf msrsOf
+setup-words s r block u =
     λ i. record {
       phase = u .phase i;
       launched = u .launched i;
-      flag = bit 9 (u .rflags i);
+      hostRsp = u .fields VmcsHostNW.RSP (lit< tt) i;
+      interruptFlag = bit 9 (u .rflags i);
       interruptibility = u .interruptibility i;
       valid = bit 31 (u .fields VmcsControl32.VMENTRY_INTERRUPTION_INFO_FIELD (lit< tt) i);
       window = (ap (bit 2) (u .fields VmcsControl32.PRIMARY_PROCBASED_EXEC_CONTROLS (lit< tt))
-          ∙ first-window (low32 (m .trueprocbased)) (high32 (m .trueprocbased)) (low32 (m .procbased)) (omega arith)) i;
+          ∙ first-window (low32 (msrAt Layout.TRUE_PROCBASED_CTLS block)) (high32 (msrAt Layout.TRUE_PROCBASED_CTLS block))
+          (low32 (msrAt Layout.PROCBASED_CTLS block)) (omega arith)) i;
       errorCode = u .fields VmcsReadOnly32.VMEXIT_INTERRUPTION_ERR_CODE (lit< tt) i;
       instructionLength = u .fields VmcsReadOnly32.VMEXIT_INSTRUCTION_LEN (lit< tt) i;
       cr0 = u .fields VmcsGuestNW.CR0 (lit< tt) i;
@@ -237,14 +240,16 @@ module _ (t : Tally Event) (s : Session) (block a b msr : List ℕ) (fixed : Typ
   setup-numbers l =
       inr (
         λ n. n l,
-        rw (setup-number s given, block-msrs block, block-features block) (setup-refuses s (capabilitiesOf (msrsOf block)) (featuresOf block) (h .lawful)),
+        rw (setup-number s given, block-msrs block, block-features block)
+            (subst (λ (l : Limits). Refuses (by 1 (s .progress .phase ≢ 0) ∷ setupRules l (featuresOf block)) (setupRefusal s (capabilitiesOf (msrsOf block)) (featuresOf block)))
+            (same-limits block) (setup-refuses s (capabilitiesOf (msrsOf block)) (featuresOf block) (h .lawful))),
       )
 
   setup-accepted : setupOf s given .refusal ≡ 0 → Refuses (ownRules (viewOf t s) call) 0 → Stepped t s call (left (answered 0 (setupOf s given .session)))
   setup-accepted e w =
       let k = set-up s given (sound-sized s h) (rw (block-msrs block) fixed) e in
       quiet t s call (setupOf s given .session) rests rests-quiet (λ _ _. refl) (k .queue) (k .entries) (k .held)
-      (setup-words s (setupOf s given .session) given k ∙ ap (atSetup (wordsOf s)) (block-msrs block)) w
+      (setup-words s (setupOf s given .session) block k) w
 
   setup-decided : Buffers block a b msr → (y : Bool) → eqb (setupOf s given .refusal) 0 ≡ y → Stepped t s call (left (setupOf s given))
   setup-decided l true e =
@@ -336,7 +341,7 @@ front (suc n) vs w cs f i a h =
     (picks (held-tells (getD vs 0 0) f i) (isHeld (getD vs 0 0) (bit 9 f) i) Held Written
     ∙ sym (ap (λ (l : List Event). answerOn l (bit 9 f) i) (events-front (suc n) vs w cs a (omega arith) h)))
 
-answers-so : (s : Session) → Sound s → injectionOf (s .queue) (s .vmcs) ≡ answerOn (waitingOf s) (wordsOf s .flag) (wordsOf s .interruptibility)
+answers-so : (s : Session) → Sound s → injectionOf (s .queue) (s .vmcs) ≡ answerOn (waitingOf s) (wordsOf s .interruptFlag) (wordsOf s .interruptibility)
 unfolding injectionOf
 answers-so s h =
     front (s .queue .waiting) (s .queue .vectors) (s .queue .coded) (s .queue .codes) _ _ (sound-alike s h) (omega (arith, h .fits .queue .vectors .sized))
@@ -365,6 +370,13 @@ pub front-waits : (s : Session) → Sound s → 0 < s .queue .waiting
 front-waits s h some-wait =
     let q = s .queue in
     events-front (q .waiting) (q .vectors) (q .coded) (q .codes) (sound-alike s h) some-wait (omega (arith, h .fits .queue .vectors .sized))
+
+-- host RSP is what the stack left: an injection and the window write other fields
+stack-kept : (v : Vmcs) (e : Core.Event) (a : Injection) → Sized v → valueOf (vmcsAfter v e a) VmcsHostNW.RSP ≡ valueOf v VmcsHostNW.RSP
+unfolding vmcsAfter
+stack-kept v e Empty z = refl
+stack-kept v e Held z = same-window VmcsHostNW.RSP (lit< tt) v z refl .value
+stack-kept v e Written z = same-injected VmcsHostNW.RSP (lit< tt) v e z refl refl refl .value
 
 module _ (t : Tally Event) (s : Session) (stack : ℕ) (h : Sound s) where
   abbrev begun : Vmcs
@@ -420,13 +432,22 @@ module _ (t : Tally Event) (s : Session) (stack : ℕ) (h : Sound s) where
       go Held = ap (bit 2) (put-own begun f _ stacked (lit< tt)) ∙ bit-or 2 (valueOf begun f) 4 ∙ or-true (bit 2 (valueOf begun f))
       go Written = ap (bit 2) (same-injected f (lit< tt) begun (frontOf (s .queue)) stacked refl refl refl .value ∙ same)
 
-  entry-words : (a : Injection) → wordsOf (afterEntry s stack a) ≡ atEntry (wordsOf s) a
+  pub rsp-after : (a : Injection) → valueOf (afterEntry s stack a .vmcs) VmcsHostNW.RSP ≡ cond (s .progress .launched) (valueOf (s .vmcs) VmcsHostNW.RSP) stack
+  unfolding afterEntry withStack
+  rsp-after a = stack-kept begun (frontOf (s .queue)) a stacked ∙ go (s .progress .launched)
+    where
+      go : (b : Bool) → valueOf (withStack (s .vmcs) b stack) VmcsHostNW.RSP ≡ cond b (valueOf (s .vmcs) VmcsHostNW.RSP) stack
+      go true = refl
+      go false = put-own (s .vmcs) VmcsHostNW.RSP stack (sound-sized s h) (lit< tt)
+
+  entry-words : (a : Injection) → wordsOf (afterEntry s stack a) ≡ atEntry (wordsOf s) stack a
   unfolding afterEntry
   entry-words a =
       λ i. record {
         phase = phase-so a i;
         launched = launched-so a i;
-        flag = bit 9 (kept VmcsGuestNW.RFLAGS (lit< tt) refl a i);
+        hostRsp = rsp-after a i;
+        interruptFlag = bit 9 (kept VmcsGuestNW.RFLAGS (lit< tt) refl a i);
         interruptibility = kept VmcsGuest32.INTERRUPTIBILITY_STATE (lit< tt) refl a i;
         valid = valid-so a i;
         window = window-so a i;
@@ -445,7 +466,7 @@ module _ (t : Tally Event) (s : Session) (stack : ℕ) (h : Sound s) where
       record {
         tally = tallied (viewOf t s .tally) (entryMove a (waitingOf s));
         pending = moved (waitingOf s) (entryMove a (waitingOf s));
-        words = atEntry (wordsOf s) a;
+        words = atEntry (wordsOf s) stack a;
       }
 
   enters : (a : Injection) → injectionOf (s .queue) (s .vmcs) ≡ a → viewOf (tallied t (entryMove a (waitingOf s))) (afterEntry s stack a) ≡ enteredAs a
@@ -470,7 +491,7 @@ module _ (t : Tally Event) (s : Session) (stack : ℕ) (h : Sound s) where
       ∙ (λ i. record {
         tally = tallied (viewOf t s .tally) (entryMove Written (sym line i));
         pending = moved (waitingOf s) (entryMove Written (sym line i));
-        words = atEntry (wordsOf s) Written;
+        words = atEntry (wordsOf s) stack Written;
       })
 
   enter-step : Stepped t s (entry stack) (sessionStep s (entry stack))
@@ -487,7 +508,7 @@ module _ (t : Tally Event) (s : Session) (stack : ℕ) (h : Sound s) where
       record {
         move = ap (λ (x : Injection). entryMove x w) a;
         state = enters (injectionOf (s .queue) (s .vmcs)) refl ∙ ap enteredAs a;
-        answer = a ∙ sym (answer-moves w (wordsOf s .flag) (wordsOf s .interruptibility));
+        answer = a ∙ sym (answer-moves w (wordsOf s .interruptFlag) (wordsOf s .interruptibility));
         numbers = inr (λ n. n (eqb-true _ _ (not-false _ y)), inr (eqb-false _ _ u, refl));
         unchanged = impossible;
       })))
@@ -519,6 +540,7 @@ record Named : Type 0 where
   cr0mask : Names 0x6000 VmcsControlNW.CR0_GUEST_HOST_MASK
   cr4 : Names 0x6804 VmcsGuestNW.CR4
   cr4mask : Names 0x6002 VmcsControlNW.CR4_GUEST_HOST_MASK
+  hostRsp : Names 0x6C14 VmcsHostNW.RSP
 
 names : Named
 unfolding encodings named fieldAt
@@ -534,6 +556,7 @@ names =
       cr0mask = record { listed = lit< tt; field = refl; within = lit< tt };
       cr4 = record { listed = lit< tt; field = refl; within = lit< tt };
       cr4mask = record { listed = lit< tt; field = refl; within = lit< tt };
+      hostRsp = record { listed = lit< tt; field = refl; within = lit< tt };
     }
 
 module _ (s : Session) (e v : ℕ) (found : positionOf encodings e < 154) (h : Sound s) where
@@ -553,7 +576,8 @@ module _ (s : Session) (e v : ℕ) (found : positionOf encodings e < 154) (h : S
       λ i. record {
         phase = s .progress .phase;
         launched = s .progress .launched;
-        flag = read-bit 9 0x6820 _ (names .rflags) i;
+        hostRsp = read 0x6C14 _ (names .hostRsp) i;
+        interruptFlag = read-bit 9 0x6820 _ (names .rflags) i;
         interruptibility = read 0x4824 _ (names .interruptibility) i;
         valid = read-bit 31 0x4016 _ (names .info) i;
         window = read-bit 2 0x4002 _ (names .primary) i;
@@ -653,7 +677,8 @@ module _ (t : Tally Event) (s : Session) (block : List ℕ) (h : Sound s) where
       λ i. record {
         phase = a .phase i;
         launched = k .launched i;
-        flag = bit 9 (a .fields VmcsGuestNW.RFLAGS (lit< tt) refl i);
+        hostRsp = a .fields VmcsHostNW.RSP (lit< tt) refl i;
+        interruptFlag = bit 9 (a .fields VmcsGuestNW.RFLAGS (lit< tt) refl i);
         interruptibility = a .fields VmcsGuest32.INTERRUPTIBILITY_STATE (lit< tt) refl i;
         valid = bit 31 (a .fields VmcsControl32.VMENTRY_INTERRUPTION_INFO_FIELD (lit< tt) refl i);
         window = bit 2 (a .fields VmcsControl32.PRIMARY_PROCBASED_EXEC_CONTROLS (lit< tt) refl i);
@@ -682,7 +707,8 @@ module _ (t : Tally Event) (s : Session) (block : List ℕ) (h : Sound s) where
       λ i. record {
         phase = (a .phase ∙ phase-agrees r) i;
         launched = k .launched i;
-        flag = bit 9 (a .rflags i);
+        hostRsp = a .fields VmcsHostNW.RSP (lit< tt) refl i;
+        interruptFlag = bit 9 (a .rflags i);
         interruptibility = a .interruptibility i;
         valid = a .invalid i;
         window = (ap (bit 2) (g VmcsControl32.PRIMARY_PROCBASED_EXEC_CONTROLS) ∙ exit-window (s .vmcs) (s .capabilities) r z) i;

@@ -13,8 +13,8 @@ use Rattle.vcpu_events.specs.declared.Injection.the-variants.{Held, Written}
 use Rattle.blocks.specs.ReportBlock.{reportOf}
 use Rattle.calls.specs.Moves.{Move, fails, exits, rests, moved, Tally, tallied, talliedAll}
 use Rattle.calls.specs.Reference.{choose, Call, setup, queueEvent, injectInterrupt, entry, exitReport, apicValue, fieldWrite, registerWrite, WellTyped, AllWellTyped, Event, entryMove, Reference, isHeld, answerOn, moveOn, referenceStep, referenceAfter, referenceAnswers, ownRules, Fed}
-use Rattle.calls.specs.Calls.{isRefused, fed, answers, moveOf, movesOf, waitingOf, viewOf}
-use Rattle.calls.proofs.Sessions.{next, sessionAfter, sessionLogged, sessionLog, Sound}
+use Rattle.calls.specs.Calls.{isRefused, fed, answersOf, moveOf, movesOf, waitingOf}
+use Rattle.calls.proofs.Sessions.{next, sessionAfter, sessionLogged, sessionLog, Sound, viewOf}
 use Rattle.calls.proofs.Fits.{sound-step}
 use Rattle.calls.proofs.Steps.{step}
 use Rattle.calls.proofs.Waiting.{Can, Kept, keeps}
@@ -48,7 +48,7 @@ can-on : (p : Reference) (c : Call) → Can (p .pending) (moveOn p c)
 can-on p (setup block a b msr) = tt
 can-on p (queueEvent vector coded code) = tt
 can-on p (injectInterrupt vector) = tt
-can-on p (entry stack) = can-enter (p .pending) (p .words .flag) (p .words .interruptibility)
+can-on p (entry stack) = can-enter (p .pending) (p .words .interruptFlag) (p .words .interruptibility)
 can-on p (exitReport block) = cond-all (Can (p .pending)) (bit 31 (reportOf block .reason)) fails exits (λ _. tt) (λ _. tt)
 can-on p (apicValue value) = tt
 can-on p (fieldWrite encoding value) = tt
@@ -91,7 +91,7 @@ Follows p (l ∷ ls) = (l .refused ≡ false → Refuses (ownRules p (l .call)) 
 pub record Ran (t : Tally Event) (s : Session) (cs : List Call) : Type 0 where
   pub sound : Sound (sessionAfter s cs)
   pub state : viewOf (talliedAll t (movesOf (sessionLog s cs))) (sessionAfter s cs) ≡ referenceAfter (viewOf t s) (fed (sessionLog s cs))
-  pub answered : answers (sessionLog s cs) ≡ referenceAnswers (viewOf t s) (fed (sessionLog s cs))
+  pub answered : answersOf (sessionLog s cs) ≡ referenceAnswers (viewOf t s) (fed (sessionLog s cs))
   pub follows : Follows (viewOf t s) (fed (sessionLog s cs))
   pub counts : viewOf t s .tally ≡ t → viewOf (talliedAll t (movesOf (sessionLog s cs))) (sessionAfter s cs) .tally ≡ talliedAll t (movesOf (sessionLog s cs))
 

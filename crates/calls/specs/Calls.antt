@@ -14,9 +14,9 @@ use Rattle.vmcs.specs.Names.VmcsControl32 as VmcsControl32
 use Rattle.vmcs.specs.Names.VmcsControlNW as VmcsControlNW
 use Rattle.vmcs.specs.Names.VmcsGuest32 as VmcsGuest32
 use Rattle.vmcs.specs.Names.VmcsGuestNW as VmcsGuestNW
+use Rattle.vmcs.specs.Names.VmcsHostNW as VmcsHostNW
 use Rattle.vmcs.specs.Names.VmcsReadOnly32 as VmcsReadOnly32
 use Rattle.vmcs.specs.declared.controls.Pair.{Pair}
-use Rattle.vcpu_session.specs.Session.{newSession}
 use Rattle.vcpu_session.specs.declared.Capabilities.{Capabilities}
 use Rattle.vcpu_session.specs.declared.Fixed.{Fixed}
 use Rattle.vcpu_session.specs.declared.Session.{Session}
@@ -24,16 +24,18 @@ use Rattle.vcpu_events.specs.Queue as Queue
 use Rattle.vcpu_events.specs.declared.Injection.{Injection}
 use Rattle.vcpu_events.specs.declared.Injection.the-variants.{Empty, Held, Written}
 use Rattle.vcpu_events.specs.Access as Access
-use Rattle.record.specs.Codec.{sessionOf, encodeOf, Encoded}
+use Rattle.record.specs.Codec.{sessionOf, Encoded}
+use Rattle.record.specs.Record as Record
 use Rattle.call_specs.specs.Records.{callOf, queueStep, EntryCall, entryCall, FramesCall}
 use Rattle.call_specs.specs.SetupCall.{setupCall}
 use Rattle.call_specs.specs.ReportCall.{ReportCall, reportCall}
 use Rattle.calls.specs.Moves.{Move, rests, Tally, begun, talliedAll}
-use Rattle.calls.specs.Reference.{Call, setup, queueEvent, injectInterrupt, entry, exitReport, apicValue, fieldWrite, registerWrite, Event, moveBy, Bounds, Limits, Words, Reference, Fed}
+use Rattle.calls.specs.Reference.{Call, setup, queueEvent, injectInterrupt, entry, exitReport, apicValue, fieldWrite, registerWrite, Event, moveBy, Bounds, Limits, Words, Fed}
 
 -- ---- one call
 
--- its refusal or 0, what an entry does with the front and whether it resumes (Empty and no for every other call), and the state that it leaves
+-- its refusal or 0, what an entry does with the front and whether it resumes (Empty and no for every other call and for a refused entry), and the state that it
+-- leaves
 pub record Outcome (S : Type 0) : Type 0 where
   pub refusal : ℕ
   pub answer : Injection
@@ -49,14 +51,20 @@ framed r = record { refusal = r .refusal; answer = Empty; resumed = false; state
 abbrev pub reported : ReportCall → Outcome (List ℕ)
 reported r = record { refusal = r .refusal; answer = Empty; resumed = false; state = r .bytes }
 
--- the injection with a number
+-- what an entry did with the front, by the number that it stores: 0, 1 and 2
 abbrev pub numbered : ℕ → Injection
 numbered n = cond (eqb n 0) Empty (cond (eqb n 1) Held Written)
+
+abbrev pub answerNumber : Injection → ℕ
+answerNumber Empty = 0
+answerNumber Held = 1
+answerNumber Written = 2
 
 abbrev pub entered : EntryCall → Outcome (List ℕ)
 entered r = record { refusal = r .refusal; answer = numbered (r .injection); resumed = eqb (r .resumed) 1; state = r .bytes }
 
--- the call on a record. What the results of an entry and the answer of a report hold before it does not matter (Contracts.antt): 0 here
+-- the call on a record. The results of an entry and the answer of a report hold 0 before it here: an accepted call does not depend on them, a refused one leaves
+-- them (Contracts.antt), so that a refused entry counts as Empty and not resumed
 abbrev pub stepOf : List ℕ → Call → Outcome (List ℕ)
 stepOf bytes (setup block a b msr) = framed (setupCall bytes block a b msr)
 stepOf bytes (queueEvent vector coded code) = plain (callOf (queueStep vector coded code) bytes)
@@ -101,12 +109,14 @@ limitsIn c =
       cr4 = fixedBounds (c .cr4);
     }
 
+-- the words of a session: the reference names the same fields by their encodings, and vmcs/proofs/TableTest.antt ties these to the names
 abbrev pub wordsOf : Session → Words
 wordsOf s =
     record {
       phase = s .progress .phase;
       launched = s .progress .launched;
-      flag = bit 9 (valueOf (s .vmcs) VmcsGuestNW.RFLAGS);
+      hostRsp = valueOf (s .vmcs) VmcsHostNW.RSP;
+      interruptFlag = bit 9 (valueOf (s .vmcs) VmcsGuestNW.RFLAGS);
       interruptibility = valueOf (s .vmcs) VmcsGuest32.INTERRUPTIBILITY_STATE;
       valid = bit 31 (valueOf (s .vmcs) VmcsControl32.VMENTRY_INTERRUPTION_INFO_FIELD);
       window = bit 2 (valueOf (s .vmcs) VmcsControl32.PRIMARY_PROCBASED_EXEC_CONTROLS);
@@ -117,15 +127,6 @@ wordsOf s =
       cr4 = valueOf (s .vmcs) VmcsGuestNW.CR4;
       cr4mask = valueOf (s .vmcs) VmcsControlNW.CR4_GUEST_HOST_MASK;
       limits = limitsIn (s .capabilities);
-    }
-
--- what the reference has of a session, once these events were queued and injected: the counts are the session's
-abbrev pub viewOf : Tally Event → Session → Reference
-viewOf t s =
-    record {
-      tally = record { queued = t .queued; injected = t .injected; entries = s .progress .entries; held = s .progress .held };
-      pending = waitingOf s;
-      words = wordsOf s;
     }
 
 -- ---- a list of calls
@@ -150,9 +151,9 @@ module _ {S : Type 0} (step : S → Call → Outcome S) (waiting : S → List Ev
   logOf s [] = []
   logOf s (c ∷ cs) = logged s c ∷ logOf (step s c .state) cs
 
--- on records
+-- the record of a new session
 abbrev pub newRecord : List ℕ
-newRecord = encodeOf newSession
+newRecord = replicate Record.LENGTH 0
 
 abbrev pub after : List ℕ → List Call → List ℕ
 after = afterAll stepOf (λ b. waitingOf (sessionOf b))
@@ -184,9 +185,9 @@ fed [] = []
 fed (l ∷ ls) = record { call = l .call; refused = isRefused (l .refusal) } ∷ fed ls
 
 -- what each call answers about the front
-abbrev pub answers : List Logged → List Injection
-answers [] = []
-answers (l ∷ ls) = l .answer ∷ answers ls
+abbrev pub answersOf : List Logged → List Injection
+answersOf [] = []
+answersOf (l ∷ ls) = l .answer ∷ answersOf ls
 
 -- what each call does to the queue: nothing, if it is refused
 abbrev pub moveOf : Logged → Move Event

@@ -1,4 +1,5 @@
--- Demand 3, the whole list (document 01): what is claimed of every list of well-typed calls on one session's record from that of a new one. Assumes nothing.
+-- Demand 3, the whole list (document 01): what is claimed of every list of well-typed calls on one session's record from that of a new one. The other exported functions leave the
+-- record: they only read it, or take none. Assumes nothing.
 use Prim.Native.Nat.{ℕ, _+_, _≤_}
 use mathlib.Core.Path.{_≡_}
 use mathlib.Core.Bool.{Bool, true, false}
@@ -16,21 +17,16 @@ use Rattle.vmcs.specs.declared.Vmcs.{Vmcs}
 use Rattle.vcpu_session.specs.declared.Session.{Session}
 use Rattle.vcpu_events.specs.declared.Injection.{Injection}
 use Rattle.vcpu_events.specs.declared.Injection.the-variants.{Empty, Held, Written}
-use Rattle.blocks.specs.SetupBlock.{msrsOf}
 use Rattle.record.specs.Codec.{sessionOf, acceptedOf}
-use Rattle.call_specs.specs.Records.{entryAnswer, entryCall, framesCall}
-use Rattle.call_specs.specs.SetupCall.{setupCall}
-use Rattle.call_specs.specs.ReportCall.{reportAnswer, reportCall}
 use Rattle.calls.specs.Moves.{queues, writes}
-use Rattle.calls.specs.Reference.{Call, setup, entry, exitReport, Event, WellTyped, AllWellTyped, Limits, limitsOf, Reference, start, IsHeld, Fed, referenceAfter, referenceAnswers, rules, types, codes, Word}
-use Rattle.calls.specs.Calls as Calls
-use Rattle.calls.specs.Calls.{stepOf, newRecord, after, loggedOf, historyOf, Accepts, Declines, enteredOf, fed, moveOf, tallyOf, written, Logged, waitingOf, viewOf}
+use Rattle.calls.specs.Reference.{Call, setup, entry, Event, WellTyped, AllWellTyped, Limits, limitsOf, Reference, start, IsHeld, Fed, referenceAfter, referenceAnswers, rules, types, codes, Word}
+use Rattle.calls.specs.Calls.{stepOf, newRecord, after, loggedOf, historyOf, Accepts, Declines, enteredOf, fed, moveOf, tallyOf, written, Logged, answersOf, waitingOf, wordsOf}
 
 -- ---- an entry, by the reference before it
 
 -- a front of this vector is held: it is 32 or more, and IF is clear or interruptibility is not 0
 abbrev pub HeldBack : Reference → ℕ → Type 0
-HeldBack p vector = IsHeld vector (p .words .flag) (p .words .interruptibility)
+HeldBack p vector = IsHeld vector (p .words .interruptFlag) (p .words .interruptibility)
 
 -- what an accepted entry answers: the hold rule by itself
 pub record Answers (p : Reference) (a : Injection) : Type 0 where
@@ -63,9 +59,9 @@ isWritten Written = true
 
 -- ---- the law on waiting
 
--- e, queued behind k events, in the record b that the queueing left, whatever well-typed calls follow
+-- e, queued behind k events (k is `length ahead`), in the record b that the queueing left, whatever well-typed calls follow
 pub record WaitLaw (b : List ℕ) (ahead : List Event) (e : Event) : Type 0 where
-  -- the entries since then, less those that held the front, make some n
+  -- no more of the entries since then held the front than there are: less these, they make some n
   pub counted : (later : List Call) → AllWellTyped later → tallyOf (historyOf b later) .held ≤ tallyOf (historyOf b later) .entries
   -- while n is at most k, it is pending: behind those ahead that are not injected, before those queued since
   pub waits : (later : List Call) → AllWellTyped later → (n : ℕ) → tallyOf (historyOf b later) .entries ≡ tallyOf (historyOf b later) .held + n → n ≤ length ahead
@@ -121,15 +117,6 @@ pub record OneSetup (ls : List Fed) : Type 0 where
   pub noneBefore : NoSetup before
   pub noneLater : NoSetup later
 
--- ---- a refused call
-
--- what it was lent beside the record is left too: the frames of setup, the two results of an entry, the words of a report's answer
-pub record Leaves (b : List ℕ) : Type 0 where
-  pub frames : (block x y z : List ℕ) → Declines b (setup block x y z) → setupCall b block x y z ≡ framesCall (stepOf b (setup block x y z) .refusal) b x y z
-  pub results : (stack resumed injection : ℕ) → Declines b (entry stack)
-      → entryCall stack b resumed injection ≡ entryAnswer (stepOf b (entry stack) .refusal) b resumed injection
-  pub words : (block words : List ℕ) → Declines b (exitReport block) → reportCall b block words ≡ reportAnswer (stepOf b (exitReport block) .refusal) b words
-
 -- ---- the whole
 
 -- what happened at each call from the record of a new session on, and the reference that is fed the calls and whether each was refused
@@ -142,16 +129,17 @@ reference calls = referenceAfter start (fed (history calls))
 -- the calls so far lead from the record of a new session to b; c and stack are of a next call
 pub record WholeList (calls : List Call) (b : List ℕ) : Type 0 where
   -- b is a record
-  pub number : acceptedOf b ≡ true
-  -- its session is as the reference has it
-  pub state : viewOf (tallyOf (history calls)) (sessionOf b) ≡ reference calls
+  pub accepted : acceptedOf b ≡ true
+  -- its waiting events and its words are the reference's, and so is what is counted of the calls
+  pub pending : waitingOf (sessionOf b) ≡ reference calls .pending
+  pub words : wordsOf (sessionOf b) ≡ reference calls .words
+  pub tally : tallyOf (history calls) ≡ reference calls .tally
   -- each entry answered as the reference
-  pub answered : Calls.answers (history calls) ≡ referenceAnswers start (fed (history calls))
+  pub answered : answersOf (history calls) ≡ referenceAnswers start (fed (history calls))
   -- a call is refused exactly where its numbers say, by the first that applies
   pub numbers : (c : Call) → WellTyped c → Refuses (rules (reference calls) c) (stepOf b c .refusal)
   -- and then changes nothing
   pub unchanged : (c : Call) → WellTyped c → Declines b c → stepOf b c .state ≡ b
-  pub leaves : Leaves b
   -- the events queued are, in order, those injected, then those pending
   pub order : tallyOf (history calls) .queued ≡ tallyOf (history calls) .injected ++ waitingOf (sessionOf b)
   -- the counts are those of accepted entries and of those that held
@@ -169,7 +157,7 @@ pub record WholeList (calls : List Call) (b : List ℕ) : Type 0 where
       → waitingOf (sessionOf b) ≡ tallyOf (historyOf b (entry stack ∷ [])) .injected ++ waitingOf (enteredOf b stack)
   -- no call takes more than one event off
   pub atMostOne : (c : Call) → WellTyped c → length (waitingOf (sessionOf b)) ≤ length (waitingOf (sessionOf (stepOf b c .state))) + 1
-  -- one that answers Written has the event in the fields; without a raw write of the word, bit 31 says so and no other entry has it
+  -- an entry that answers Written has the event in the fields. Without a raw write of 0x4016, bit 31 is set exactly after such an entry
   pub wrote : (stack : ℕ) → WellTyped (entry stack) → stepOf b (entry stack) .answer ≡ Written → Wrote (reference calls) (enteredOf b stack)
   pub valid : written 0x4016 (fed (history calls)) ≡ false → (stack : ℕ) → WellTyped (entry stack) → Accepts b (entry stack)
       → bit 31 (valueOf (enteredOf b stack .vmcs) VmcsControl32.VMENTRY_INTERRUPTION_INFO_FIELD) ≡ isWritten (stepOf b (entry stack) .answer)
@@ -177,6 +165,6 @@ pub record WholeList (calls : List Call) (b : List ℕ) : Type 0 where
   pub permitted : Unwritten judgedFields (fed (history calls))
       → (block a c msr : List ℕ) → List·Memᴰ (acceptedSetup block a c msr) (fed (history calls))
       → (stack : ℕ) → WellTyped (entry stack) → Accepts b (entry stack)
-      → Permits (limitsOf (msrsOf block)) (enteredOf b stack .vmcs)
+      → Permits (limitsOf block) (enteredOf b stack .vmcs)
   -- the law on waiting, for each event that is queued next
   pub law : (c : Call) → WellTyped c → (e : Event) → moveOf (loggedOf b c) ≡ queues e → WaitLaw (stepOf b c .state) (waitingOf (sessionOf b)) e

@@ -12,7 +12,7 @@ pub data Move (E : Type 0) : Type 0 where
   finds-none : Move E
   holds : Move E
   writes : E → Move E
-  -- the report of the entry that runs: the guest exited, or the entry failed
+  -- the report of the entry that runs: the guest exited, or the entry failed. Neither does anything to the queue
   exits : Move E
   fails : Move E
   -- any other call, and every refused one

@@ -1,5 +1,6 @@
 -- Demand 3: the calls on a session, and the reference queue (document 01, "Demand 3, the whole list"). The reference is fed the calls and whether
--- each was refused; it uses the layout of the calls' arguments and the listed tables, and no definition of what a call does. Assumes nothing.
+-- each was refused; it uses the layout of the calls' arguments, the order of the registers and the listed tables, and no definition of what a call does. Assumes
+-- nothing.
 use Prim.Native.Nat.{ℕ, _+_, _*_, _/_, _%_, _^_, _<_, _≤_}
 use mathlib.Core.Path.{_≡_}
 use mathlib.Core.Logic.{_⊎_, _≢_, inl, inr}
@@ -17,13 +18,12 @@ use Rattle.regs.specs.Registers.{listOf}
 use Rattle.vmcs.specs.Named.{encodings}
 use Rattle.vcpu_events.specs.declared.Injection.{Injection}
 use Rattle.vcpu_events.specs.declared.Injection.the-variants.{Empty, Held, Written}
-use Rattle.vcpu_setup.specs.declared.CapabilityMsrs.{CapabilityMsrs}
 use Rattle.vcpu_setup.specs.declared.Features.{Features}
 use Rattle.vcpu_exit.specs.declared.Report.{Report}
 use Rattle.blocks.specs.ReportLayout as ReportLayout
 use Rattle.blocks.specs.ReportBlock.{reportOf}
 use Rattle.blocks.specs.SetupLayout as Layout
-use Rattle.blocks.specs.SetupBlock.{msrsOf, featuresOf}
+use Rattle.blocks.specs.SetupBlock.{featuresOf}
 use Rattle.calls.specs.Moves.{Move, queues, finds-none, holds, writes, exits, fails, rests, moved, answerOf, Tally, begun, tallied}
 
 -- ---- choices by a decision
@@ -81,7 +81,8 @@ pub record Event : Type 0 where
   pub vector : ℕ
   pub code : Option ℕ
 
--- an entry that gives this answer about the front of these events. (None answers Written where none waits: `Answers` of DemandThree.antt)
+-- an entry that gives this answer about the front of these events: Empty is document 01's none. No entry answers Written on an empty queue (`Answers` of
+-- DemandThree.antt)
 abbrev pub entryMove : Injection → List Event → Move Event
 entryMove Empty w = finds-none
 entryMove Held w = holds
@@ -99,7 +100,7 @@ moveBy (apicValue value) answer w = rests
 moveBy (fieldWrite encoding value) answer w = rests
 moveBy (registerWrite index value) answer w = rests
 
--- ---- what the processor permits (SDM 3D, A.2 to A.8)
+-- ---- what the processor permits (SDM 3D, A.3 to A.5, A.7 and A.8)
 
 -- the bits that must be 1 and those that may be: allowed-0 and allowed-1 of a control, fixed-0 and fixed-1 of CR0 and CR4
 pub record Bounds : Type 0 where
@@ -119,22 +120,26 @@ pub record Limits : Type 0 where
   pub cr0 : Bounds
   pub cr4 : Bounds
 
--- by the MSRs that setup is given: the TRUE words, and 0x48B for the secondary controls
-abbrev pub limitsOf : CapabilityMsrs → Limits
-limitsOf m =
+-- an MSR in setup's block, by its offset there
+abbrev pub msrAt : ℕ → List ℕ → ℕ
+msrAt offset block = littleEndian 8 (drop offset block)
+
+-- by the MSRs that setup is given: the IA32_VMX_TRUE_.._CTLS, and IA32_VMX_PROCBASED_CTLS2 for the secondary controls
+abbrev pub limitsOf : List ℕ → Limits
+limitsOf block =
     record {
-      pin = halvesOf (m .truepinbased);
-      primary = halvesOf (m .trueprocbased);
-      secondary = halvesOf (m .procbased2);
-      exit = halvesOf (m .trueexit);
-      entry = halvesOf (m .trueentry);
-      cr0 = record { must = m .cr0fixed0; may = m .cr0fixed1 };
-      cr4 = record { must = m .cr4fixed0; may = m .cr4fixed1 };
+      pin = halvesOf (msrAt Layout.TRUE_PINBASED_CTLS block);
+      primary = halvesOf (msrAt Layout.TRUE_PROCBASED_CTLS block);
+      secondary = halvesOf (msrAt Layout.PROCBASED_CTLS2 block);
+      exit = halvesOf (msrAt Layout.TRUE_EXIT_CTLS block);
+      entry = halvesOf (msrAt Layout.TRUE_ENTRY_CTLS block);
+      cr0 = record { must = msrAt Layout.CR0_FIXED0 block; may = msrAt Layout.CR0_FIXED1 block };
+      cr4 = record { must = msrAt Layout.CR4_FIXED0 block; may = msrAt Layout.CR4_FIXED1 block };
     }
 
 -- ---- the guest's CR0 and CR4 (SDM 3C, 25.6.6; 3D, A.7 and A.8)
 
--- the value that is asked for, with every bit that must be 1 and none that may not be; and the guest/host mask, which owns just these bits
+-- the value that is asked for, without the bits that may not be 1 and with those that must be, which prevail; and the guest/host mask, which owns just these bits
 abbrev pub crValue : Bounds → ℕ → ℕ
 crValue b asked = bitOr (bitAnd asked (b .may)) (b .must)
 
@@ -157,8 +162,10 @@ pub record Words : Type 0 where
   pub phase : ℕ
   -- an entry was accepted: the next one resumes
   pub launched : Bool
+  -- host RSP: the host stack number of the entry that launched
+  pub hostRsp : ℕ
   -- IF, which is RFLAGS bit 9
-  pub flag : Bool
+  pub interruptFlag : Bool
   pub interruptibility : ℕ
   -- bit 31 of the entry interruption field
   pub valid : Bool
@@ -191,7 +198,8 @@ start =
       words = record {
         phase = 0;
         launched = false;
-        flag = false;
+        hostRsp = 0;
+        interruptFlag = false;
         interruptibility = 0;
         valid = false;
         window = false;
@@ -227,7 +235,7 @@ answerOn (e ∷ es) flag interruptibility = choose (isHeld (e .vector) flag inte
 
 -- what a call that is accepted does to the queue
 abbrev pub moveOn : Reference → Call → Move Event
-moveOn p c = moveBy c (answerOn (p .pending) (p .words .flag) (p .words .interruptibility)) (p .pending)
+moveOn p c = moveBy c (answerOn (p .pending) (p .words .interruptFlag) (p .words .interruptibility)) (p .pending)
 
 -- ---- what a report says
 
@@ -245,19 +253,19 @@ abbrev pub namesApic : (r : Report) → Dec (NamesApic r)
 namesApic r = both (decLe 0x800 (ecxOf r)) (decLe (ecxOf r) 0x8FF)
 
 -- RDMSR (reason 31) of an APIC register waits for its value
-abbrev pub waits : (r : Report) → Dec ((basicReason r ≡ 31) × NamesApic r)
-waits r = both (ℕ-discrete (basicReason r) 31) (namesApic r)
+abbrev pub awaitsValue : (r : Report) → Dec ((basicReason r ≡ 31) × NamesApic r)
+awaitsValue r = both (ℕ-discrete (basicReason r) 31) (namesApic r)
 
 -- reason 28's qualification: bits 0 to 3 the control register, 4 to 5 the access (0 is a move to it), 8 to 11 the general register, of which 4 is RSP
-abbrev pub MovesTo : ℕ → Report → Type 0
-MovesTo n r = (r .qualification / 2 ^ 4 % 4 ≡ 0) × (r .qualification % 2 ^ 4 ≡ n)
+abbrev pub MovToCr : ℕ → Report → Type 0
+MovToCr n r = (r .qualification / 2 ^ 4 % 4 ≡ 0) × (r .qualification % 2 ^ 4 ≡ n)
 
-abbrev pub movedBy : Report → ℕ
-movedBy r = choose (ℕ-discrete (r .qualification / 2 ^ 8 % 2 ^ 4) 4) (r .rsp) (getD (listOf (r .regs)) (r .qualification / 2 ^ 8 % 2 ^ 4) 0)
+abbrev pub movSource : Report → ℕ
+movSource r = choose (ℕ-discrete (r .qualification / 2 ^ 8 % 2 ^ 4) 4) (r .rsp) (getD (listOf (r .regs)) (r .qualification / 2 ^ 8 % 2 ^ 4) 0)
 
 -- an exit by a move to the control register n
-abbrev pub moves : (n : ℕ) (r : Report) → Dec ((basicReason r ≡ 28) × MovesTo n r)
-moves n r = both (ℕ-discrete (basicReason r) 28) (both (ℕ-discrete (r .qualification / 2 ^ 4 % 4) 0) (ℕ-discrete (r .qualification % 2 ^ 4) n))
+abbrev pub movToCr : (n : ℕ) (r : Report) → Dec ((basicReason r ≡ 28) × MovToCr n r)
+movToCr n r = both (ℕ-discrete (basicReason r) 28) (both (ℕ-discrete (r .qualification / 2 ^ 4 % 4) 0) (ℕ-discrete (r .qualification % 2 ^ 4) n))
 
 -- ---- the words that an accepted call leaves
 
@@ -266,7 +274,8 @@ inPhase w phase =
     record {
       phase = phase;
       launched = w .launched;
-      flag = w .flag;
+      hostRsp = w .hostRsp;
+      interruptFlag = w .interruptFlag;
       interruptibility = w .interruptibility;
       valid = w .valid;
       window = w .window;
@@ -280,23 +289,24 @@ inPhase w phase =
     }
 
 -- setup: IF is clear and nothing is blocked (RFLAGS is 2, interruptibility 0). CR0 is asked to be NW, CD and ET (0x60000010), CR4 0. A primary bit that
--- may be 0 or 1, and that setup does not choose, is as in the low half of the plain word, 0x482
-abbrev pub atSetup : Words → CapabilityMsrs → Words
-atSetup w m =
+-- may be 0 or 1, and that setup does not choose, is as in the low half of IA32_VMX_PROCBASED_CTLS
+abbrev pub atSetup : Words → List ℕ → Words
+atSetup w block =
     record {
       phase = 1;
       launched = w .launched;
-      flag = false;
+      hostRsp = w .hostRsp;
+      interruptFlag = false;
       interruptibility = 0;
       valid = w .valid;
-      window = bit 2 (limitsOf m .primary .must) || (bit 2 (limitsOf m .primary .may) && bit 2 (low32 (m .procbased)));
+      window = bit 2 (limitsOf block .primary .must) || (bit 2 (limitsOf block .primary .may) && bit 2 (low32 (msrAt Layout.PROCBASED_CTLS block)));
       errorCode = w .errorCode;
       instructionLength = w .instructionLength;
-      cr0 = crValue (cr0Bounds (limitsOf m)) 0x60000010;
-      cr0mask = crMask (cr0Bounds (limitsOf m));
-      cr4 = crValue (limitsOf m .cr4) (cr4Asked 0);
-      cr4mask = crMask (limitsOf m .cr4);
-      limits = limitsOf m;
+      cr0 = crValue (cr0Bounds (limitsOf block)) 0x60000010;
+      cr0mask = crMask (cr0Bounds (limitsOf block));
+      cr4 = crValue (limitsOf block .cr4) (cr4Asked 0);
+      cr4mask = crMask (limitsOf block .cr4);
+      limits = limitsOf block;
     }
 
 abbrev pub validBy : Injection → Bool → Bool
@@ -309,13 +319,14 @@ windowBy Empty window = window
 windowBy Held window = true
 windowBy Written window = window
 
--- an entry: an event that is written is valid, one that is held asks for the window
-abbrev pub atEntry : Words → Injection → Words
-atEntry w answer =
+-- an entry: the first one launches and stores its host stack number. An event that is written is valid; one that is held sets interrupt-window exiting
+abbrev pub atEntry : Words → ℕ → Injection → Words
+atEntry w stack answer =
     record {
       phase = 2;
       launched = true;
-      flag = w .flag;
+      hostRsp = cond (w .launched) (w .hostRsp) stack;
+      interruptFlag = w .interruptFlag;
       interruptibility = w .interruptibility;
       valid = validBy answer (w .valid);
       window = windowBy answer (w .window);
@@ -328,23 +339,24 @@ atEntry w answer =
       limits = w .limits;
     }
 
--- an exit gives the words anew, and clears bit 31 of the entry interruption field. An interrupt window (reason 7) is no longer asked for. A move to CR0 or CR4
--- is carried out
+-- an exit stores the report's values, and clears bit 31 of the entry interruption field. Reason 7 clears interrupt-window exiting. A move to CR0 or CR4 is
+-- carried out
 abbrev pub atExit : Words → Report → Words
 atExit w r =
     record {
-      phase = choose (waits r) 3 1;
+      phase = choose (awaitsValue r) 3 1;
       launched = w .launched;
-      flag = bit 9 (r .rflags);
+      hostRsp = w .hostRsp;
+      interruptFlag = bit 9 (r .rflags);
       interruptibility = r .interruptibility;
       valid = false;
       window = choose (ℕ-discrete (basicReason r) 7) false (w .window);
       errorCode = r .code;
       instructionLength = r .length;
-      cr0 = choose (moves 0 r) (crValue (cr0Bounds (w .limits)) (movedBy r)) (r .cr0);
-      cr0mask = choose (moves 0 r) (crMask (cr0Bounds (w .limits))) (w .cr0mask);
-      cr4 = choose (moves 4 r) (crValue (w .limits .cr4) (cr4Asked (movedBy r))) (r .cr4);
-      cr4mask = choose (moves 4 r) (crMask (w .limits .cr4)) (w .cr4mask);
+      cr0 = choose (movToCr 0 r) (crValue (cr0Bounds (w .limits)) (movSource r)) (r .cr0);
+      cr0mask = choose (movToCr 0 r) (crMask (cr0Bounds (w .limits))) (w .cr0mask);
+      cr4 = choose (movToCr 4 r) (crValue (w .limits .cr4) (cr4Asked (movSource r))) (r .cr4);
+      cr4mask = choose (movToCr 4 r) (crMask (w .limits .cr4)) (w .cr4mask);
       limits = w .limits;
     }
 
@@ -354,7 +366,8 @@ atFieldWrite w encoding value =
     record {
       phase = w .phase;
       launched = w .launched;
-      flag = choose (ℕ-discrete encoding 0x6820) (bit 9 value) (w .flag);
+      hostRsp = choose (ℕ-discrete encoding 0x6C14) value (w .hostRsp);
+      interruptFlag = choose (ℕ-discrete encoding 0x6820) (bit 9 value) (w .interruptFlag);
       interruptibility = choose (ℕ-discrete encoding 0x4824) value (w .interruptibility);
       valid = choose (ℕ-discrete encoding 0x4016) (bit 31 value) (w .valid);
       window = choose (ℕ-discrete encoding 0x4002) (bit 2 value) (w .window);
@@ -368,10 +381,10 @@ atFieldWrite w encoding value =
     }
 
 abbrev pub wordsBy : Reference → Call → Words
-wordsBy p (setup block a b msr) = atSetup (p .words) (msrsOf block)
+wordsBy p (setup block a b msr) = atSetup (p .words) block
 wordsBy p (queueEvent vector coded code) = p .words
 wordsBy p (injectInterrupt vector) = p .words
-wordsBy p (entry stack) = atEntry (p .words) (answerOn (p .pending) (p .words .flag) (p .words .interruptibility))
+wordsBy p (entry stack) = atEntry (p .words) stack (answerOn (p .pending) (p .words .interruptFlag) (p .words .interruptibility))
 -- a failed entry ends the session
 wordsBy p (exitReport block) = cond (bit 31 (reportOf block .reason)) (inPhase (p .words) 4) (atExit (p .words) (reportOf block))
 wordsBy p (apicValue value) = inPhase (p .words) 1
@@ -405,7 +418,7 @@ referenceAnswers p (l ∷ ls) = referenceAnswer p (l .call) (l .refused) ∷ ref
 
 -- ---- refusals: the numbers in the order they are tested, each with where it applies
 
--- 2 is its negation: each buffer of setup has its length, and its yes/no bytes are 0 or 1
+-- 2 is its negation: setup's buffers have their lengths, and the block's yes/no bytes are 0 or 1
 pub record Buffers (block a b msr : List ℕ) : Type 0 where
   pub long : length block ≡ Layout.LENGTH
   pub rdtscp : littleEndian 1 (drop Layout.RDTSCP block) ≤ 1
@@ -461,14 +474,14 @@ UnknownReason r =
 -- entry bit 9 is to be set: a move to CR0 of a value with PG, unless LME and LMA are both set
 abbrev pub SetsIa32e : Report → Type 0
 SetsIa32e r =
-    (basicReason r ≡ 28) × MovesTo 0 r × (bit 31 (movedBy r) ≡ true) × ((bit 8 (r .efer) ≡ true) × (bit 10 (r .efer) ≡ true) → ⊥)
+    (basicReason r ≡ 28) × MovToCr 0 r × (bit 31 (movSource r) ≡ true) × ((bit 8 (r .efer) ≡ true) × (bit 10 (r .efer) ≡ true) → ⊥)
 
--- those of an exit that is not a failed entry. 8: allowed-1 of the entry controls lacks bit 9, IA-32e mode guest
+-- those of an exit that is not a failed entry. 19: ECX is 0, by the rule before. 8: allowed-1 of the entry controls lacks bit 9, IA-32e mode guest
 abbrev pub exitRules : Words → Report → List Rule
 exitRules w r =
     by 15 (Agree (w .cr0mask) (r .cr0) (w .cr0) × Agree (w .cr4mask) (r .cr4) (w .cr4) → ⊥)
     ∷ by 16 ((basicReason r ≡ 1) × ((bit 31 (r .interruption) ≡ false) ⊎ (r .interruption / 2 ^ 8 % 8 ≡ 1)))
-    ∷ by 18 ((basicReason r ≡ 28) × (MovesTo 0 r ⊎ MovesTo 4 r → ⊥))
+    ∷ by 18 ((basicReason r ≡ 28) × (MovToCr 0 r ⊎ MovToCr 4 r → ⊥))
     ∷ by 20 ((basicReason r ≡ 55) × (ecxOf r ≢ 0))
     ∷ by 19 (basicReason r ≡ 55)
     ∷ by 21 (basicReason r ≡ 44)
@@ -484,7 +497,7 @@ reportRules w r = by 1 (w .phase ≢ 2) ∷ by 14 (UnknownReason r) ∷ cond (bi
 
 abbrev pub ownRules : Reference → Call → List Rule
 ownRules p (setup block a b msr) =
-    by 2 (Buffers block a b msr → ⊥) ∷ by 1 (p .words .phase ≢ 0) ∷ setupRules (limitsOf (msrsOf block)) (featuresOf block)
+    by 2 (Buffers block a b msr → ⊥) ∷ by 1 (p .words .phase ≢ 0) ∷ setupRules (limitsOf block) (featuresOf block)
 ownRules p (queueEvent vector coded code) = by 2 (2 ≤ coded) ∷ by 1 (p .words .phase ≡ 4) ∷ by 13 (64 ≤ length (p .pending)) ∷ []
 ownRules p (injectInterrupt vector) =
     by 1 (p .words .phase ≡ 4) ∷ by 12 ((vector ≡ 0) ⊎ (256 ≤ vector)) ∷ by 13 (64 ≤ length (p .pending)) ∷ []

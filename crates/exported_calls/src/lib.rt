@@ -1,18 +1,16 @@
 // What every list of calls comes to is a theorem about the steps of a list (crate `calls`). The functions here tie these steps to the exported functions: each
 // calls one of them and ensures its step, so that a contract that says less than the step is refused. Nothing calls these.
-ghost use mathlib.Core.Path.{_≡_};
-ghost use Rattle.calls.specs.Reference.{setup, queueEvent, injectInterrupt, exitReport, apicValue, fieldWrite, registerWrite};
-ghost use Rattle.calls.specs.Calls.{newRecord};
-ghost use Rattle.calls.specs.Contracts.{Does, Enters};
+ghost use Rattle.calls.specs.Reference.{queueEvent, injectInterrupt, apicValue, fieldWrite, registerWrite};
+ghost use Rattle.calls.specs.Contracts.{Creates, Does, SetsUp, Enters, Reports};
 
 fn new(bytes: &mut [u8], a: &mut [u8], b: &mut [u8], msr: &mut [u8]) -> u32
-    ensures { λ r. ⌜ (r ≡ 0 → now (bytes .exit) ≡ newRecord) ⌝ }
+    ensures { λ r. ⌜ Creates (now (bytes .entry)) (now (a .entry)) (now (b .entry)) (now (msr .entry)) r (now (bytes .exit)) (now (a .exit)) (now (b .exit)) (now (msr .exit)) ⌝ }
 {
     x86_vcpu::session::vcpu_new(bytes, a, b, msr)
 }
 
 fn set_up(bytes: &mut [u8], block: &[u8], a: &mut [u8], b: &mut [u8], msr: &mut [u8]) -> u32
-    ensures { λ r. ⌜ Does (now (bytes .entry)) (setup (now (block .entry)) (now (a .entry)) (now (b .entry)) (now (msr .entry))) r (now (bytes .exit)) ⌝ }
+    ensures { λ r. ⌜ SetsUp (now (bytes .entry)) (now (block .entry)) (now (a .entry)) (now (b .entry)) (now (msr .entry)) r (now (bytes .exit)) (now (a .exit)) (now (b .exit)) (now (msr .exit)) ⌝ }
 {
     x86_vcpu::setup::vcpu_setup(bytes, block, a, b, msr)
 }
@@ -30,13 +28,13 @@ fn inject_interrupt(bytes: &mut [u8], vector: u64) -> u32
 }
 
 fn enter(bytes: &mut [u8], stack: u64, resumed: &mut u8, injection: &mut u8) -> u32
-    ensures { λ r. ⌜ Enters (now (bytes .entry)) stack r (now (bytes .exit)) (now (resumed .exit)) (now (injection .exit)) ⌝ }
+    ensures { λ r. ⌜ Enters (now (bytes .entry)) stack (now (resumed .entry)) (now (injection .entry)) r (now (bytes .exit)) (now (resumed .exit)) (now (injection .exit)) ⌝ }
 {
     x86_vcpu::session::vcpu_entry(bytes, stack, resumed, injection)
 }
 
 fn exit_report(bytes: &mut [u8], block: &[u8], answer: &mut [u64; 8]) -> u32
-    ensures { λ r. ⌜ Does (now (bytes .entry)) (exitReport (now (block .entry))) r (now (bytes .exit)) ⌝ }
+    ensures { λ r. ⌜ Reports (now (bytes .entry)) (now (block .entry)) (now (answer .entry)) r (now (bytes .exit)) (now (answer .exit)) ⌝ }
 {
     x86_vcpu::report::vcpu_exit_report(bytes, block, answer)
 }

@@ -1,25 +1,24 @@
 -- Demand 3, put together from the lemmas on one call, on lists and on records. Assumes nothing.
 use Prim.Native.Nat.{ℕ, _+_, _<_, _≤_}
 use mathlib.Core.Path.{_≡_, refl, sym, ap, _∙_, subst}
-use mathlib.Core.Bool.{Bool, true, false, cond, not}
+use mathlib.Core.Bool.{Bool, false, cond, not}
 use mathlib.Core.List.{List, [], _∷_, _++_, append-nil, List·Memᴰ}
 use mathlib.Core.Logic.{inr}
-use mathlib.Core.Option.{some, none, Option·getD}
+use mathlib.Core.Option.{none}
 use native.Mathlib.Omega.{arith}
-use lib.Dec.{eqb, lit<}
-use lib.ListN.{length, getD, drop, length-append, length-drop}
-use borrow.Author.Tests.{eq-eqb, ne-eqb, le-leb}
+use lib.Dec.{eqb}
+use lib.ListN.{length, drop, length-append, length-drop}
+use borrow.Author.Tests.{eq-eqb, ne-eqb}
 use Rattle.bits.specs.Refuses.{Refuses}
+use Rattle.bits.specs.Words.{bit}
 use Rattle.bits.proofs.Tells.{cond-all}
 use Rattle.vmcs.specs.Field.{valueOf}
 use Rattle.vmcs.specs.Names.VmcsHostNW as VmcsHostNW
-use Rattle.vmcs.specs.Names.VmcsReadOnly32 as VmcsReadOnly32
-use Rattle.vmcs.specs.declared.Vmcs.{Vmcs}
 use Rattle.vcpu_session.specs.Session.{LAST_ENTRY, newSession, isUnlawful}
 use Rattle.vcpu_session.specs.declared.Session.{Session}
 use Rattle.vcpu_events.specs.Queue.{frontOf}
 use Rattle.vcpu_events.specs.Entry as Entry
-use Rattle.vcpu_events.specs.Entry.{injectionOf, withStack, vmcsAfter, afterEntry}
+use Rattle.vcpu_events.specs.Entry.{injectionOf, afterEntry}
 use Rattle.vcpu_events.specs.declared.Entered.{Entered}
 use Rattle.vcpu_events.specs.declared.Injection.{Injection}
 use Rattle.vcpu_events.specs.declared.Injection.the-variants.{Empty, Held, Written}
@@ -27,15 +26,14 @@ use Rattle.vcpu_setup.specs.Capability.{capabilitiesOf}
 use Rattle.blocks.specs.SetupBlock.{msrsOf}
 use Rattle.record.specs.Codec.{sessionOf}
 use Rattle.calls.specs.Moves.{Move, queues, finds-none, holds, writes, exits, fails, rests, moved, Tally, begun, tallied, talliedAll}
-use Rattle.calls.specs.Reference.{types, Call, entry, WellTyped, AllWellTyped, Event, entryMove, limitsOf, start, Reference, validBy, choose, isHeld, answerOn, referenceStep, referenceAnswer, referenceAfter, referenceAnswers, Fed, ownRules}
+use Rattle.calls.specs.Reference.{Call, entry, WellTyped, AllWellTyped, Event, entryMove, limitsOf, start, Reference, EventFields, choose, isHeld, answerOn, referenceAnswer, referenceAfter, referenceAnswers, Fed, ownRules}
 use Rattle.calls.specs.Calls.{stepOf, newRecord, after, loggedOf, historyOf, isRefused, Logged, fed, moveOf, movesOf, tallyOf, answersOf, written, eventOf, waitingOf, wordsOf}
 use Rattle.calls.specs.DemandThree.{Answers, Wrote, Launches, WaitLaw, isWritten, Permits, Unwritten, judgedFields, acceptedSetup, WholeList}
 use Rattle.calls.proofs.Choices.{impossible, choose-yes, choose-no}
 use Rattle.calls.proofs.WordBits.{tabled}
-use Rattle.calls.proofs.Fields.{same-stack, injected-word, injected-code, injected-long}
-use Rattle.calls.proofs.Sessions.{sessionStep, next, sessionAfter, sessionLogged, sessionLog, Sound, sound-sized, viewOf}
+use Rattle.calls.proofs.Sessions.{sessionStep, next, sessionAfter, sessionLogged, sessionLog, Sound, viewOf}
 use Rattle.calls.proofs.Fits.{sound-step}
-use Rattle.calls.proofs.Steps.{step, written-waits, front-waits, answer-moves, rsp-after}
+use Rattle.calls.proofs.Steps.{step, written-waits, front-waits, answer-moves, rsp-after, event-written, event-so}
 use Rattle.calls.proofs.Waiting.{Kept, begins, keeps, counted, waits, injects}
 use Rattle.calls.proofs.Whole.{can, moves, accepted, Follows, run, kept-after}
 use Rattle.calls.proofs.Invariants.{entry-ready, Clear, clear-after, launched-after, one-setup}
@@ -60,30 +58,14 @@ module _ (s : Session) (stack : ℕ) (P : Entered → Type 0) where
 other : Empty ≡ Written → ⊥
 other e = let z : _≡_ {A = ℕ} 0 1 = cc in omega arith
 
--- the code that goes in
-given-code : (b : Bool) (x y : ℕ) → cond b x y ≡ Option·getD (cond b (some x) none) y
-given-code true x y = refl
-given-code false x y = refl
-
 module _ (t : Tally Event) (s : Session) (stack : ℕ) (h : Sound s) where
-  abbrev stacked : Vmcs
-  stacked = withStack (s .vmcs) (s .progress .launched) stack
-
   wrote : 0 < s .queue .waiting → Wrote (viewOf t s) (afterEntry s stack Written)
-  unfolding afterEntry vmcsAfter
   wrote some-wait =
-      let e = frontOf (s .queue) in
-      let z = sound-sized s h in
-      let k = same-stack VmcsReadOnly32.VMEXIT_INSTRUCTION_LEN (lit< tt) (s .vmcs) (s .progress .launched) stack z refl in
-      let c = same-stack VmcsReadOnly32.VMEXIT_INTERRUPTION_ERR_CODE (lit< tt) (s .vmcs) (s .progress .launched) stack z refl in
-      let y = tabled (e .vector) (h .fits .queue .vectors .below 0) in
       record {
-        front = eventOf (e .vector) (e .coded) (e .code);
+        front = eventOf (frontOf (s .queue) .vector) (frontOf (s .queue) .coded) (frontOf (s .queue) .code);
         rest = drop 1 (waitingOf s);
         pending = front-waits s h some-wait;
-        word = rw (injected-word stacked e (k .sized)) (y .word);
-        code = λ x. injected-code stacked e (k .sized) (y .coded ∙ eq-eqb _ _ x) ∙ ap (cond (e .coded) (e .code)) (c .value) ∙ given-code (e .coded) (e .code) _;
-        long = λ a b. injected-long stacked e (k .sized) (y .soft ∙ rw (le-leb 4 (getD types (e .vector) 0) a) (le-leb _ _ b)) ∙ k .value;
+        fields = event-written t s stack h some-wait;
       }
 
   entry-wrote : sessionStep s (entry stack) .answer ≡ Written → Wrote (viewOf t s) (next s (entry stack))
@@ -116,22 +98,24 @@ module _ (s : Session) (stack : ℕ) (h : Sound s) where
 
 -- ---- bit 31 of the word that an accepted entry leaves
 
-valid-written : (a : Injection) → validBy a false ≡ isWritten a
-valid-written Empty = refl
-valid-written Held = refl
-valid-written Written = refl
+-- where it was clear before
+valid-after : (s : Session) (stack : ℕ) → Sound s → bit 31 (wordsOf s .event .info) ≡ false → (a : Injection) → injectionOf (s .queue) (s .vmcs) ≡ a
+    → bit 31 (wordsOf (afterEntry s stack a) .event .info) ≡ isWritten a
+valid-after s stack h clear Empty e = ap (λ (x : EventFields). bit 31 (x .info)) (event-so begun s stack h Empty e) ∙ clear
+valid-after s stack h clear Held e = ap (λ (x : EventFields). bit 31 (x .info)) (event-so begun s stack h Held e) ∙ clear
+valid-after s stack h clear Written e =
+    ap (λ (x : EventFields). bit 31 (x .info)) (event-written begun s stack h (written-waits s e))
+    ∙ tabled (frontOf (s .queue) .vector) (h .fits .queue .vectors .below 0) .valid
 
 entry-valid : (t : Tally Event) (s : Session) (stack : ℕ) → WellTyped (entry stack) → Sound s → Clear (wordsOf s)
-    → isRefused (sessionStep s (entry stack) .refusal) ≡ false → wordsOf (next s (entry stack)) .valid ≡ isWritten (sessionStep s (entry stack) .answer)
+    → isRefused (sessionStep s (entry stack) .refusal) ≡ false
+    → bit 31 (wordsOf (next s (entry stack)) .event .info) ≡ isWritten (sessionStep s (entry stack) .answer)
 entry-valid t s stack v h k ok =
     let p = viewOf t s in
-    let y = step t s (entry stack) v h in
     let n = accepted t s (entry stack) v h ok in
-    let z : p .words .valid ≡ false = k (λ e. entry-ready p stack n (λ o. omega arith)) (λ e. entry-ready p stack n (λ o. omega arith)) in
-    let a = answerOn (p .pending) (p .words .interruptFlag) (p .words .interruptibility) in
-    ap (λ (r : Reference). r .words .valid) (y .state) ∙ ap (λ (r : Bool). referenceStep p (entry stack) r .words .valid) ok
-    ∙ ap (validBy a) z ∙ valid-written a
-    ∙ ap isWritten (sym (y .answer ∙ ap (referenceAnswer p (entry stack)) ok ∙ answer-moves (p .pending) (p .words .interruptFlag) (p .words .interruptibility)))
+    let clear = k (λ e. entry-ready p stack n (λ o. omega arith)) (λ e. entry-ready p stack n (λ o. omega arith)) in
+    by-entry s stack (λ (a : Entered). isRefused (a .refusal) ≡ false → bit 31 (wordsOf (a .session) .event .info) ≡ isWritten (a .injection))
+    (λ n e f. impossible (sym f ∙ ap not e)) (λ _. valid-after s stack h clear (injectionOf (s .queue) (s .vmcs)) refl) ok
 
 -- ---- what an accepted entry answers
 
@@ -300,7 +284,7 @@ whole-list calls w =
       valid = λ none stack v ok.
           let kc = carried b s (entry stack) v m h in
           let clear : Clear (p .words) = clear-after start (fed (historyOf newRecord calls)) follows none (λ _ _. refl) in
-          ap (λ (x : Session). wordsOf x .valid) (kc .state .holds)
+          ap (λ (x : Session). bit 31 (wordsOf x .event .info)) (kc .state .holds)
           ∙ entry-valid t s stack v h (subst (λ (q : Reference). Clear (q .words)) (sym at) clear) (ok-session b s m h (entry stack) v ok)
           ∙ ap isWritten (sym (kc .answer));
       permitted = λ none block a c msr mem stack v ok.

@@ -130,23 +130,43 @@ module _ (v : Vmcs) (e : Core.Event) (s : Sized v) where
   unfolding injected
   injected-word = put-own (withLength (withCode v e) e) info (wordOf e) parts-sized (lit< tt)
 
-  pub injected-code : hasErrorCode (e .vector) ≡ true
-      → valueOf (injected v e) VmcsControl32.VMENTRY_EXCEPTION_ERR_CODE ≡ cond (e .coded) (e .code) (valueOf v VmcsReadOnly32.VMEXIT_INTERRUPTION_ERR_CODE)
+  pub injected-code : valueOf (injected v e) VmcsControl32.VMENTRY_EXCEPTION_ERR_CODE
+      ≡ cond (hasErrorCode (e .vector)) (cond (e .coded) (e .code) (valueOf v VmcsReadOnly32.VMEXIT_INTERRUPTION_ERR_CODE))
+      (valueOf v VmcsControl32.VMENTRY_EXCEPTION_ERR_CODE)
   unfolding injected withCode codeOf
-  injected-code t =
-      let code = VmcsControl32.VMENTRY_EXCEPTION_ERR_CODE in
+  injected-code =
       put-same (withLength (withCode v e) e) info code (wordOf e) parts-sized (lit< tt) refl
       ∙ same-length code (lit< tt) (withCode v e) (withCode v e) e refl (record { sized = coded-sized; value = refl }) .value
-      ∙ rw t (put-own v code (cond (e .coded) (e .code) (valueOf v VmcsReadOnly32.VMEXIT_INTERRUPTION_ERR_CODE)) s (lit< tt))
+      ∙ go (hasErrorCode (e .vector))
+    where
+      code : Field
+      code = VmcsControl32.VMENTRY_EXCEPTION_ERR_CODE
 
-  pub injected-long : isSoft (fromVector (e .vector)) ≡ true
-      → valueOf (injected v e) VmcsControl32.VMENTRY_INSTRUCTION_LEN ≡ valueOf v VmcsReadOnly32.VMEXIT_INSTRUCTION_LEN
+      x : ℕ
+      x = cond (e .coded) (e .code) (valueOf v VmcsReadOnly32.VMEXIT_INTERRUPTION_ERR_CODE)
+
+      go : (b : Bool) → valueOf (cond b (put v code x) v) code ≡ cond b x (valueOf v code)
+      go true = put-own v code x s (lit< tt)
+      go false = refl
+
+  pub injected-long : valueOf (injected v e) VmcsControl32.VMENTRY_INSTRUCTION_LEN
+      ≡ cond (isSoft (fromVector (e .vector))) (valueOf v VmcsReadOnly32.VMEXIT_INSTRUCTION_LEN) (valueOf v VmcsControl32.VMENTRY_INSTRUCTION_LEN)
   unfolding injected withLength
-  injected-long t =
-      let long = VmcsControl32.VMENTRY_INSTRUCTION_LEN in
+  injected-long =
       put-same (withLength (withCode v e) e) info long (wordOf e) parts-sized (lit< tt) refl
-      ∙ rw t (put-own (withCode v e) long (valueOf (withCode v e) VmcsReadOnly32.VMEXIT_INSTRUCTION_LEN) coded-sized (lit< tt))
-      ∙ same-code VmcsReadOnly32.VMEXIT_INSTRUCTION_LEN (lit< tt) v e s refl .value
+      ∙ go (isSoft (fromVector (e .vector)))
+      ∙ (λ i. cond (isSoft (fromVector (e .vector))) (same-code VmcsReadOnly32.VMEXIT_INSTRUCTION_LEN (lit< tt) v e s refl .value i)
+      (same-code long (lit< tt) v e s refl .value i))
+    where
+      long : Field
+      long = VmcsControl32.VMENTRY_INSTRUCTION_LEN
+
+      x : ℕ
+      x = valueOf (withCode v e) VmcsReadOnly32.VMEXIT_INSTRUCTION_LEN
+
+      go : (b : Bool) → valueOf (cond b (put (withCode v e) long x) (withCode v e)) long ≡ cond b x (valueOf (withCode v e) long)
+      go true = put-own (withCode v e) long x coded-sized (lit< tt)
+      go false = refl
 
 -- ---- values within their fields
 

@@ -13,6 +13,7 @@ use Rattle.bits.specs.Words.{bit}
 use Rattle.bits.proofs.Tells.{both-false, cond-all}
 use Rattle.vcpu_events.specs.declared.Injection.{Injection}
 use Rattle.vcpu_events.specs.declared.Injection.the-variants.{Held, Written}
+use Rattle.vcpu_report.proofs.Known.{invalid}
 use Rattle.blocks.specs.ReportBlock.{reportOf}
 use Rattle.calls.specs.Moves.{Move, fails, exits, tallied}
 use Rattle.calls.specs.Reference.{Call, setup, queueEvent, injectInterrupt, entry, exitReport, apicValue, fieldWrite, registerWrite, Event, entryMove, answerOn, isHeld, awaitsValue, Words, inPhase, atExit, wordsBy, Reference, moveOn, accept, referenceStep, referenceAfter, Fed, ownRules}
@@ -44,7 +45,7 @@ module _ (p : Reference) where
 -- ---- bit 31 of the entry interruption field, without a raw write of it: clear unless the session is running or ended
 
 abbrev pub Clear : Words → Type 0
-Clear w = w .phase ≢ 2 → w .phase ≢ 4 → w .valid ≡ false
+Clear w = w .phase ≢ 2 → w .phase ≢ 4 → bit 31 (w .event .info) ≡ false
 
 clear-accepted : (p : Reference) (c : Call) → writesField 0x4016 c ≡ false → Refuses (ownRules p c) 0 → Clear (p .words) → Clear (wordsBy p c)
 clear-accepted p (setup block a b msr) n w k =
@@ -52,9 +53,9 @@ clear-accepted p (setup block a b msr) n w k =
 clear-accepted p (queueEvent vector coded code) n w k = k
 clear-accepted p (injectInterrupt vector) n w k = k
 clear-accepted p (entry stack) n w k = λ x y. absurd (x refl)
-clear-accepted p (exitReport block) n w k = cond-all Clear (bit 31 (reportOf block .reason)) _ _ (λ _ x y. absurd (y refl)) (λ _ x y. refl)
+clear-accepted p (exitReport block) n w k = cond-all Clear (bit 31 (reportOf block .reason)) _ _ (λ _ x y. absurd (y refl)) (λ _ x y. invalid (p .words .event .info))
 clear-accepted p (apicValue value) n w k = λ x y. k (λ e. apic-waits p value w (λ z. omega arith)) (λ e. apic-waits p value w (λ z. omega arith))
-clear-accepted p (fieldWrite encoding value) n w k = λ x y. choose-no (ℕ-discrete encoding 0x4016) _ _ (eqb-false encoding 0x4016 n) ∙ k x y
+clear-accepted p (fieldWrite encoding value) n w k = λ x y. ap (bit 31) (choose-no (ℕ-discrete encoding 0x4016) _ _ (eqb-false encoding 0x4016 n)) ∙ k x y
 clear-accepted p (registerWrite index value) n w k = k
 
 clear-step : (p : Reference) (c : Call) (r : Bool) → cond r false (writesField 0x4016 c) ≡ false → (r ≡ false → Refuses (ownRules p c) 0)

@@ -4,6 +4,7 @@ use mathlib.Core.Path.{_≡_, refl, sym, ap, _∙_, subst}
 use mathlib.Core.Bool.{Bool, true, false, cond, not, _&&_, _||_, or-true, true≢false}
 use mathlib.Core.List.{List, [], _∷_, _++_, List·Memᴰ}
 use mathlib.Core.Logic.{_⊎_, _≢_, inl, inr}
+use mathlib.Core.Option.{some, none, Option·getD}
 use native.Mathlib.Decide.{ℕ-discrete}
 use native.Mathlib.Omega.{arith}
 use native.Mathlib.Numerals.{add-one}
@@ -46,7 +47,7 @@ use Rattle.vcpu_events.specs.Access.{fieldsWritten, registersWritten}
 use Rattle.vcpu_setup.specs.Setup.{setupRefusal, setupOf}
 use Rattle.vcpu_setup.specs.Writes.{setupWrites}
 use Rattle.vcpu_setup.specs.declared.Arguments.{Arguments}
-use Rattle.vmcs.specs.Writes.{Sized}
+use Rattle.vmcs.specs.Writes.{sameField, Sized}
 use Rattle.vcpu_setup.specs.Capability.{capabilitiesOf}
 use Rattle.vcpu_setup.specs.Laws.{Typed, SetUp}
 use Rattle.vcpu_setup.specs.Words.{primarySet, primaryClear, setupWords}
@@ -67,13 +68,13 @@ use Rattle.call_specs.specs.Records.{queueStep}
 use Rattle.bits.specs.Refuses.{by, Refuses}
 use Rattle.bits.proofs.Tells.{Tells, tells-eq, tells-leb, tells-and, tells-or, tells-not, tells-as, cond-all}
 use Rattle.calls.specs.Moves.{Move, queues, exits, fails, rests, moved, answerOf, Tally, tallied}
-use Rattle.calls.specs.Reference.{choose, Call, setup, queueEvent, injectInterrupt, entry, exitReport, apicValue, fieldWrite, registerWrite, WellTyped, Event, entryMove, moveBy, Limits, msrAt, IsHeld, isHeld, answerOn, moveOn, Reference, validBy, windowBy, inPhase, atSetup, atEntry, atExit, atFieldWrite, wordsBy, referenceStep, referenceAnswer, Buffers, setupRules, reportRules, ownRules}
+use Rattle.calls.specs.Reference.{choose, Call, setup, queueEvent, injectInterrupt, entry, exitReport, apicValue, fieldWrite, registerWrite, WellTyped, Event, entryMove, moveBy, Limits, msrAt, IsHeld, isHeld, answerOn, moveOn, Reference, types, codes, isSoft, eventFields, eventBy, windowBy, inPhase, atSetup, atEntry, atExit, atFieldWrite, wordsBy, referenceStep, referenceAnswer, Buffers, setupRules, reportRules, ownRules}
 use Rattle.calls.specs.Calls.{Outcome, Logged, isRefused, eventOf, eventsOf, waitingOf, limitsIn, wordsOf, moveOf}
 use Rattle.calls.proofs.Choices.{impossible, choose-no, choose-ap}
 use Rattle.calls.proofs.Events.{events-set, events-long, events-shifted, events-front}
 use Rattle.calls.proofs.RawWrites.{Names, raw-read, placed-listed, listed-placed}
 use Rattle.calls.proofs.WordBits.{tabled}
-use Rattle.calls.proofs.Fields.{put-own, same-stack, same-window, same-injected, entryFields, same-entered, injected-word}
+use Rattle.calls.proofs.Fields.{put-own, same-stack, same-window, same-injected, entryFields, same-entered, injected-word, injected-code, injected-long}
 use Rattle.calls.proofs.Sessions.{hasBuffers, left, entering, sessionStep, Sound, sound-sized, sound-alike, viewOf}
 use Rattle.calls.proofs.SetupNumbers.{buffers-of, of-buffers, setup-refuses, same-limits}
 use Rattle.calls.proofs.SetupFits.{typed}
@@ -216,7 +217,11 @@ setup-words s r block u =
       hostRsp = u .fields VmcsHostNW.RSP (lit< tt) i;
       interruptFlag = bit 9 (u .rflags i);
       interruptibility = u .interruptibility i;
-      valid = bit 31 (u .fields VmcsControl32.VMENTRY_INTERRUPTION_INFO_FIELD (lit< tt) i);
+      event = record {
+        info = u .fields VmcsControl32.VMENTRY_INTERRUPTION_INFO_FIELD (lit< tt) i;
+        code = u .fields VmcsControl32.VMENTRY_EXCEPTION_ERR_CODE (lit< tt) i;
+        length = u .fields VmcsControl32.VMENTRY_INSTRUCTION_LEN (lit< tt) i;
+      };
       window = (ap (bit 2) (u .fields VmcsControl32.PRIMARY_PROCBASED_EXEC_CONTROLS (lit< tt))
           ∙ first-window (low32 (msrAt Layout.TRUE_PROCBASED_CTLS block)) (high32 (msrAt Layout.TRUE_PROCBASED_CTLS block))
           (low32 (msrAt Layout.PROCBASED_CTLS block)) (omega arith)) i;
@@ -402,20 +407,59 @@ module _ (t : Tally Event) (s : Session) (stack : ℕ) (h : Sound s) where
   launched-so Held = refl
   launched-so Written = refl
 
-  valid-so : (a : Injection) → wordsOf (afterEntry s stack a) .valid ≡ validBy a (wordsOf s .valid)
+  -- a field of the event, unless one is written
+  stays : (f : Field) → placeOf f < sizeOf f → sameField VmcsHostNW.RSP f ≡ false → sameField VmcsControl32.PRIMARY_PROCBASED_EXEC_CONTROLS f ≡ false
+      → (valueOf (afterEntry s stack Empty .vmcs) f ≡ valueOf (s .vmcs) f) × (valueOf (afterEntry s stack Held .vmcs) f ≡ valueOf (s .vmcs) f)
   unfolding afterEntry vmcsAfter
-  valid-so Empty = ap (bit 31) (same-stack f (lit< tt) (s .vmcs) (s .progress .launched) stack (sound-sized s h) refl .value)
-    where
-      f : Field
-      f = VmcsControl32.VMENTRY_INTERRUPTION_INFO_FIELD
-  valid-so Held =
-      ap (bit 31) (same-window f (lit< tt) begun stacked refl .value ∙ same-stack f (lit< tt) (s .vmcs) (s .progress .launched) stack (sound-sized s h) refl .value)
-    where
-      f : Field
-      f = VmcsControl32.VMENTRY_INTERRUPTION_INFO_FIELD
-  valid-so Written =
+  stays f k e g =
+      let same = same-stack f k (s .vmcs) (s .progress .launched) stack (sound-sized s h) e .value in
+      (same, same-window f k begun stacked g .value ∙ same)
+
+  -- the front in its fields
+  pub event-written : 0 < s .queue .waiting
+      → wordsOf (afterEntry s stack Written) .event
+      ≡ eventFields (eventOf (frontOf (s .queue) .vector) (frontOf (s .queue) .coded) (frontOf (s .queue) .code)) (wordsOf s .errorCode) (wordsOf s .instructionLength)
+      (wordsOf s .event)
+  unfolding afterEntry vmcsAfter
+  event-written some-wait =
       let e = frontOf (s .queue) in
-      ap (bit 31) (injected-word begun e stacked) ∙ ap (λ (w : ℕ). eqb (w % 2) 1) (tabled (e .vector) (h .fits .queue .vectors .below 0) .word .valid)
+      let y = tabled (e .vector) (h .fits .queue .vectors .below 0) in
+      let k : (f : Field) → placeOf f < sizeOf f → sameField VmcsHostNW.RSP f ≡ false → valueOf begun f ≡ valueOf (s .vmcs) f
+      = λ f l n. same-stack f l (s .vmcs) (s .progress .launched) stack (sound-sized s h) n .value in
+      let carries = ℕ-discrete (getD codes (e .vector) 0) 1 in
+      λ i. record {
+        info = (injected-word begun e stacked ∙ y .word) i;
+        code = (injected-code begun e stacked
+            ∙ (λ i. cond (y .coded i) (cond (e .coded) (e .code) (k VmcsReadOnly32.VMEXIT_INTERRUPTION_ERR_CODE (lit< tt) refl i))
+            (k VmcsControl32.VMENTRY_EXCEPTION_ERR_CODE (lit< tt) refl i))
+            ∙ picks (tells-eq (getD codes (e .vector) 0) 1) carries _ _
+            ∙ ap (λ (x : ℕ). choose carries x (wordsOf s .event .code)) (given-code (e .coded) (e .code) (wordsOf s .errorCode))) i;
+        length = (injected-long begun e stacked
+            ∙ (λ i. cond (y .soft i) (k VmcsReadOnly32.VMEXIT_INSTRUCTION_LEN (lit< tt) refl i) (k VmcsControl32.VMENTRY_INSTRUCTION_LEN (lit< tt) refl i))
+            ∙ picks (tells-and (tells-leb 4 (getD types (e .vector) 0)) (tells-leb (getD types (e .vector) 0) 6)) (isSoft (e .vector)) _ _) i;
+      }
+    where
+      -- the code that goes in
+      given-code : (b : Bool) (x y : ℕ) → cond b x y ≡ Option·getD (cond b (some x) none) y
+      given-code true x y = refl
+      given-code false x y = refl
+
+  pub event-so : (a : Injection) → injectionOf (s .queue) (s .vmcs) ≡ a → wordsOf (afterEntry s stack a) .event ≡ eventBy a (waitingOf s) (wordsOf s)
+  event-so Empty e =
+      λ i. record {
+        info = stays VmcsControl32.VMENTRY_INTERRUPTION_INFO_FIELD (lit< tt) refl refl .0 i;
+        code = stays VmcsControl32.VMENTRY_EXCEPTION_ERR_CODE (lit< tt) refl refl .0 i;
+        length = stays VmcsControl32.VMENTRY_INSTRUCTION_LEN (lit< tt) refl refl .0 i;
+      }
+  event-so Held e =
+      λ i. record {
+        info = stays VmcsControl32.VMENTRY_INTERRUPTION_INFO_FIELD (lit< tt) refl refl .1 i;
+        code = stays VmcsControl32.VMENTRY_EXCEPTION_ERR_CODE (lit< tt) refl refl .1 i;
+        length = stays VmcsControl32.VMENTRY_INSTRUCTION_LEN (lit< tt) refl refl .1 i;
+      }
+  event-so Written e =
+      let some-wait = written-waits s e in
+      event-written some-wait ∙ ap (λ (w : List Event). eventBy Written w (wordsOf s)) (sym (front-waits s h some-wait))
 
   window-so : (a : Injection) → wordsOf (afterEntry s stack a) .window ≡ windowBy a (wordsOf s .window)
   unfolding afterEntry vmcsAfter windowSet
@@ -440,16 +484,16 @@ module _ (t : Tally Event) (s : Session) (stack : ℕ) (h : Sound s) where
       go true = refl
       go false = put-own (s .vmcs) VmcsHostNW.RSP stack (sound-sized s h) (lit< tt)
 
-  entry-words : (a : Injection) → wordsOf (afterEntry s stack a) ≡ atEntry (wordsOf s) stack a
+  entry-words : (a : Injection) → injectionOf (s .queue) (s .vmcs) ≡ a → wordsOf (afterEntry s stack a) ≡ atEntry (wordsOf s) stack a (waitingOf s)
   unfolding afterEntry
-  entry-words a =
+  entry-words a e =
       λ i. record {
         phase = phase-so a i;
         launched = launched-so a i;
         hostRsp = rsp-after a i;
         interruptFlag = bit 9 (kept VmcsGuestNW.RFLAGS (lit< tt) refl a i);
         interruptibility = kept VmcsGuest32.INTERRUPTIBILITY_STATE (lit< tt) refl a i;
-        valid = valid-so a i;
+        event = event-so a e i;
         window = window-so a i;
         errorCode = kept VmcsReadOnly32.VMEXIT_INTERRUPTION_ERR_CODE (lit< tt) refl a i;
         instructionLength = kept VmcsReadOnly32.VMEXIT_INSTRUCTION_LEN (lit< tt) refl a i;
@@ -466,13 +510,13 @@ module _ (t : Tally Event) (s : Session) (stack : ℕ) (h : Sound s) where
       record {
         tally = tallied (viewOf t s .tally) (entryMove a (waitingOf s));
         pending = moved (waitingOf s) (entryMove a (waitingOf s));
-        words = atEntry (wordsOf s) stack a;
+        words = atEntry (wordsOf s) stack a (waitingOf s);
       }
 
   enters : (a : Injection) → injectionOf (s .queue) (s .vmcs) ≡ a → viewOf (tallied t (entryMove a (waitingOf s))) (afterEntry s stack a) ≡ enteredAs a
   unfolding afterEntry progressAfter queueAfter popped
-  enters Empty e = λ i. record { tally = enteredAs Empty .tally; pending = waitingOf s; words = entry-words Empty i }
-  enters Held e = λ i. record { tally = enteredAs Held .tally; pending = waitingOf s; words = entry-words Held i }
+  enters Empty e = λ i. record { tally = enteredAs Empty .tally; pending = waitingOf s; words = entry-words Empty e i }
+  enters Held e = λ i. record { tally = enteredAs Held .tally; pending = waitingOf s; words = entry-words Held e i }
   enters Written e =
       let q = s .queue in
       let line = front-waits s h (written-waits s e) in
@@ -486,12 +530,12 @@ module _ (t : Tally Event) (s : Session) (stack : ℕ) (h : Sound s) where
           held = s .progress .held;
         };
         pending = rest i;
-        words = entry-words Written i;
+        words = entry-words Written e i;
       })
       ∙ (λ i. record {
         tally = tallied (viewOf t s .tally) (entryMove Written (sym line i));
         pending = moved (waitingOf s) (entryMove Written (sym line i));
-        words = atEntry (wordsOf s) stack Written;
+        words = atEntry (wordsOf s) stack Written (waitingOf s);
       })
 
   enter-step : Stepped t s (entry stack) (sessionStep s (entry stack))
@@ -533,6 +577,8 @@ record Named : Type 0 where
   rflags : Names 0x6820 VmcsGuestNW.RFLAGS
   interruptibility : Names 0x4824 VmcsGuest32.INTERRUPTIBILITY_STATE
   info : Names 0x4016 VmcsControl32.VMENTRY_INTERRUPTION_INFO_FIELD
+  code : Names 0x4018 VmcsControl32.VMENTRY_EXCEPTION_ERR_CODE
+  length : Names 0x401A VmcsControl32.VMENTRY_INSTRUCTION_LEN
   primary : Names 0x4002 VmcsControl32.PRIMARY_PROCBASED_EXEC_CONTROLS
   errorCode : Names 0x4406 VmcsReadOnly32.VMEXIT_INTERRUPTION_ERR_CODE
   instructionLength : Names 0x440C VmcsReadOnly32.VMEXIT_INSTRUCTION_LEN
@@ -549,6 +595,8 @@ names =
       rflags = record { listed = lit< tt; field = refl; within = lit< tt };
       interruptibility = record { listed = lit< tt; field = refl; within = lit< tt };
       info = record { listed = lit< tt; field = refl; within = lit< tt };
+      code = record { listed = lit< tt; field = refl; within = lit< tt };
+      length = record { listed = lit< tt; field = refl; within = lit< tt };
       primary = record { listed = lit< tt; field = refl; within = lit< tt };
       errorCode = record { listed = lit< tt; field = refl; within = lit< tt };
       instructionLength = record { listed = lit< tt; field = refl; within = lit< tt };
@@ -579,7 +627,11 @@ module _ (s : Session) (e v : ℕ) (found : positionOf encodings e < 154) (h : S
         hostRsp = read 0x6C14 _ (names .hostRsp) i;
         interruptFlag = read-bit 9 0x6820 _ (names .rflags) i;
         interruptibility = read 0x4824 _ (names .interruptibility) i;
-        valid = read-bit 31 0x4016 _ (names .info) i;
+        event = record {
+          info = read 0x4016 _ (names .info) i;
+          code = read 0x4018 _ (names .code) i;
+          length = read 0x401A _ (names .length) i;
+        };
         window = read-bit 2 0x4002 _ (names .primary) i;
         errorCode = read-only 0x4406 _ (names .errorCode) refl other i;
         instructionLength = read-only 0x440C _ (names .instructionLength) refl other i;
@@ -680,7 +732,11 @@ module _ (t : Tally Event) (s : Session) (block : List ℕ) (h : Sound s) where
         hostRsp = a .fields VmcsHostNW.RSP (lit< tt) refl i;
         interruptFlag = bit 9 (a .fields VmcsGuestNW.RFLAGS (lit< tt) refl i);
         interruptibility = a .fields VmcsGuest32.INTERRUPTIBILITY_STATE (lit< tt) refl i;
-        valid = bit 31 (a .fields VmcsControl32.VMENTRY_INTERRUPTION_INFO_FIELD (lit< tt) refl i);
+        event = record {
+          info = a .fields VmcsControl32.VMENTRY_INTERRUPTION_INFO_FIELD (lit< tt) refl i;
+          code = a .fields VmcsControl32.VMENTRY_EXCEPTION_ERR_CODE (lit< tt) refl i;
+          length = a .fields VmcsControl32.VMENTRY_INSTRUCTION_LEN (lit< tt) refl i;
+        };
         window = bit 2 (a .fields VmcsControl32.PRIMARY_PROCBASED_EXEC_CONTROLS (lit< tt) refl i);
         errorCode = a .fields VmcsReadOnly32.VMEXIT_INTERRUPTION_ERR_CODE (lit< tt) refl i;
         instructionLength = a .fields VmcsReadOnly32.VMEXIT_INSTRUCTION_LEN (lit< tt) refl i;
@@ -710,7 +766,11 @@ module _ (t : Tally Event) (s : Session) (block : List ℕ) (h : Sound s) where
         hostRsp = a .fields VmcsHostNW.RSP (lit< tt) refl i;
         interruptFlag = bit 9 (a .rflags i);
         interruptibility = a .interruptibility i;
-        valid = a .invalid i;
+        event = record {
+          info = a .fields VmcsControl32.VMENTRY_INTERRUPTION_INFO_FIELD (lit< tt) refl i;
+          code = a .fields VmcsControl32.VMENTRY_EXCEPTION_ERR_CODE (lit< tt) refl i;
+          length = a .fields VmcsControl32.VMENTRY_INSTRUCTION_LEN (lit< tt) refl i;
+        };
         window = (ap (bit 2) (g VmcsControl32.PRIMARY_PROCBASED_EXEC_CONTROLS) ∙ exit-window (s .vmcs) (s .capabilities) r z) i;
         errorCode = a .code i;
         instructionLength = a .length i;

@@ -118,7 +118,11 @@ wordsOf s =
       hostRsp = valueOf (s .vmcs) VmcsHostNW.RSP;
       interruptFlag = bit 9 (valueOf (s .vmcs) VmcsGuestNW.RFLAGS);
       interruptibility = valueOf (s .vmcs) VmcsGuest32.INTERRUPTIBILITY_STATE;
-      valid = bit 31 (valueOf (s .vmcs) VmcsControl32.VMENTRY_INTERRUPTION_INFO_FIELD);
+      event = record {
+        info = valueOf (s .vmcs) VmcsControl32.VMENTRY_INTERRUPTION_INFO_FIELD;
+        code = valueOf (s .vmcs) VmcsControl32.VMENTRY_EXCEPTION_ERR_CODE;
+        length = valueOf (s .vmcs) VmcsControl32.VMENTRY_INSTRUCTION_LEN;
+      };
       window = bit 2 (valueOf (s .vmcs) VmcsControl32.PRIMARY_PROCBASED_EXEC_CONTROLS);
       errorCode = valueOf (s .vmcs) VmcsReadOnly32.VMEXIT_INTERRUPTION_ERR_CODE;
       instructionLength = valueOf (s .vmcs) VmcsReadOnly32.VMEXIT_INSTRUCTION_LEN;

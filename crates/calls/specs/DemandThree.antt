@@ -4,9 +4,8 @@ use Prim.Native.Nat.{ℕ, _+_, _≤_}
 use mathlib.Core.Path.{_≡_}
 use mathlib.Core.Bool.{Bool, true, false}
 use mathlib.Core.List.{List, [], _∷_, _++_, List·Memᴰ}
-use mathlib.Core.Option.{Option·getD}
 use lib.Dec.{T}
-use lib.ListN.{length, getD, drop}
+use lib.ListN.{length, drop}
 use Rattle.bits.specs.Refuses.{Refuses}
 use Rattle.bits.specs.Words.{bit, Permitted, PermittedBut}
 use Rattle.vmcs.specs.Field.{valueOf}
@@ -19,7 +18,7 @@ use Rattle.vcpu_events.specs.declared.Injection.{Injection}
 use Rattle.vcpu_events.specs.declared.Injection.the-variants.{Empty, Held, Written}
 use Rattle.record.specs.Codec.{sessionOf, acceptedOf}
 use Rattle.calls.specs.Moves.{queues, writes}
-use Rattle.calls.specs.Reference.{Call, setup, entry, Event, WellTyped, AllWellTyped, Limits, limitsOf, Reference, start, IsHeld, Fed, referenceAfter, referenceAnswers, rules, types, codes, Word}
+use Rattle.calls.specs.Reference.{Call, setup, entry, Event, WellTyped, AllWellTyped, Limits, limitsOf, Reference, start, IsHeld, Fed, referenceAfter, referenceAnswers, rules, eventFields}
 use Rattle.calls.specs.Calls.{stepOf, newRecord, after, loggedOf, historyOf, Accepts, Declines, enteredOf, fed, moveOf, tallyOf, written, Logged, answersOf, waitingOf, wordsOf}
 
 -- ---- an entry, by the reference before it
@@ -39,12 +38,7 @@ pub record Wrote (p : Reference) (t : Session) : Type 0 where
   pub front : Event
   pub rest : List Event
   pub pending : p .pending ≡ front ∷ rest
-  pub word : Word (front .vector) (valueOf (t .vmcs) VmcsControl32.VMENTRY_INTERRUPTION_INFO_FIELD)
-  -- the caller's code, else that of the last exit
-  pub code : getD codes (front .vector) 0 ≡ 1 → valueOf (t .vmcs) VmcsControl32.VMENTRY_EXCEPTION_ERR_CODE ≡ Option·getD (front .code) (p .words .errorCode)
-  -- soft types (4, 5, 6) copy the instruction length of the last exit
-  pub long : 4 ≤ getD types (front .vector) 0 → getD types (front .vector) 0 ≤ 6
-      → valueOf (t .vmcs) VmcsControl32.VMENTRY_INSTRUCTION_LEN ≡ p .words .instructionLength
+  pub fields : wordsOf t .event ≡ eventFields front (p .words .errorCode) (p .words .instructionLength) (p .words .event)
 
 -- an entry of s, after so many accepted ones, answers whether it resumes and returns t: the first launches, and stores its host stack number; each later one resumes,
 -- and leaves host RSP

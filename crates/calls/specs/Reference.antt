@@ -6,7 +6,7 @@ use mathlib.Core.Path.{_≡_}
 use mathlib.Core.Logic.{_⊎_, _≢_, inl, inr}
 use mathlib.Core.Bool.{Bool, true, false, cond, Bool-discrete, _&&_, _||_}
 use mathlib.Core.List.{List, [], _∷_, _++_, List·Memᴰ}
-use mathlib.Core.Option.{Option, none, some}
+use mathlib.Core.Option.{Option, none, some, Option·getD}
 use native.Mathlib.Decide.{decLe, ℕ-discrete}
 use lib.Bits.{bitAnd, bitOr}
 use lib.Dec.{T, eqb}
@@ -154,6 +154,41 @@ cr0Bounds l = record { must = bitAnd (l .cr0 .must) (bitNot 64 0x80000001); may 
 abbrev pub cr4Asked : ℕ → ℕ
 cr4Asked x = bitOr x 0x2000
 
+-- ---- the fields of an event that an entry writes (document 01, "Events"; SDM 3C, 25.8.3)
+
+-- the interruption types of vectors 0 to 31; the others have type 0
+abbrev pub types : List ℕ
+types =
+    3 ∷ 5 ∷ 2 ∷ 6 ∷ 6 ∷ 3 ∷ 3 ∷ 3 ∷ 3 ∷ 3 ∷ 3 ∷ 3 ∷ 3 ∷ 3 ∷ 3 ∷ 3
+    ∷ 3 ∷ 3 ∷ 3 ∷ 3 ∷ 3 ∷ 7 ∷ 7 ∷ 7 ∷ 7 ∷ 7 ∷ 7 ∷ 7 ∷ 7 ∷ 7 ∷ 7 ∷ 7 ∷ []
+
+-- 1 for the vectors that carry an error code: 8, 10 to 14, 17
+abbrev pub codes : List ℕ
+codes = 0 ∷ 0 ∷ 0 ∷ 0 ∷ 0 ∷ 0 ∷ 0 ∷ 0 ∷ 1 ∷ 0 ∷ 1 ∷ 1 ∷ 1 ∷ 1 ∷ 1 ∷ 0 ∷ 0 ∷ 1 ∷ []
+
+-- the entry interruption word of a vector: the vector, its type, whether it carries a code, and valid
+abbrev pub wordFor : ℕ → ℕ
+wordFor v = v + 2 ^ 8 * getD types v 0 + 2 ^ 11 * getD codes v 0 + 2 ^ 31
+
+-- its type is a soft one: 4, 5 or 6
+abbrev pub isSoft : (v : ℕ) → Dec ((4 ≤ getD types v 0) × (getD types v 0 ≤ 6))
+isSoft v = both (decLe 4 (getD types v 0)) (decLe (getD types v 0) 6)
+
+-- the entry interruption field, the entry exception error code, and the entry instruction length
+pub record EventFields : Type 0 where
+  pub info : ℕ
+  pub code : ℕ
+  pub length : ℕ
+
+-- those of an event, in place of old ones: the caller's code, else that of the last exit; soft types copy the instruction length of the last exit
+abbrev pub eventFields : Event → (errorCode instructionLength : ℕ) → EventFields → EventFields
+eventFields e errorCode instructionLength old =
+    record {
+      info = wordFor (e .vector);
+      code = choose (ℕ-discrete (getD codes (e .vector) 0) 1) (Option·getD (e .code) errorCode) (old .code);
+      length = choose (isSoft (e .vector)) instructionLength (old .length);
+    }
+
 -- ---- the reference
 
 -- what it keeps beside the queue and the counts
@@ -167,8 +202,7 @@ pub record Words : Type 0 where
   -- IF, which is RFLAGS bit 9
   pub interruptFlag : Bool
   pub interruptibility : ℕ
-  -- bit 31 of the entry interruption field
-  pub valid : Bool
+  pub event : EventFields
   -- interrupt-window exiting, which is bit 2 of the primary controls
   pub window : Bool
   -- the error code and the instruction length of the last exit that was no failed entry
@@ -201,7 +235,7 @@ start =
         hostRsp = 0;
         interruptFlag = false;
         interruptibility = 0;
-        valid = false;
+        event = record { info = 0; code = 0; length = 0 };
         window = false;
         errorCode = 0;
         instructionLength = 0;
@@ -277,7 +311,7 @@ inPhase w phase =
       hostRsp = w .hostRsp;
       interruptFlag = w .interruptFlag;
       interruptibility = w .interruptibility;
-      valid = w .valid;
+      event = w .event;
       window = w .window;
       errorCode = w .errorCode;
       instructionLength = w .instructionLength;
@@ -298,7 +332,7 @@ atSetup w block =
       hostRsp = w .hostRsp;
       interruptFlag = false;
       interruptibility = 0;
-      valid = w .valid;
+      event = w .event;
       window = bit 2 (limitsOf block .primary .must) || (bit 2 (limitsOf block .primary .may) && bit 2 (low32 (msrAt Layout.PROCBASED_CTLS block)));
       errorCode = w .errorCode;
       instructionLength = w .instructionLength;
@@ -309,26 +343,28 @@ atSetup w block =
       limits = limitsOf block;
     }
 
-abbrev pub validBy : Injection → Bool → Bool
-validBy Empty valid = valid
-validBy Held valid = valid
-validBy Written valid = true
+abbrev pub eventBy : Injection → List Event → Words → EventFields
+eventBy Empty pending w = w .event
+eventBy Held pending w = w .event
+eventBy Written [] w = w .event
+eventBy Written (e ∷ pending) w = eventFields e (w .errorCode) (w .instructionLength) (w .event)
 
 abbrev pub windowBy : Injection → Bool → Bool
 windowBy Empty window = window
 windowBy Held window = true
 windowBy Written window = window
 
--- an entry: the first one launches and stores its host stack number. An event that is written is valid; one that is held sets interrupt-window exiting
-abbrev pub atEntry : Words → ℕ → Injection → Words
-atEntry w stack answer =
+-- an entry: the first one launches and stores its host stack number. The front goes into the fields where the entry answers Written, and sets interrupt-window
+-- exiting where it is held
+abbrev pub atEntry : Words → ℕ → Injection → List Event → Words
+atEntry w stack answer pending =
     record {
       phase = 2;
       launched = true;
       hostRsp = cond (w .launched) (w .hostRsp) stack;
       interruptFlag = w .interruptFlag;
       interruptibility = w .interruptibility;
-      valid = validBy answer (w .valid);
+      event = eventBy answer pending w;
       window = windowBy answer (w .window);
       errorCode = w .errorCode;
       instructionLength = w .instructionLength;
@@ -349,7 +385,7 @@ atExit w r =
       hostRsp = w .hostRsp;
       interruptFlag = bit 9 (r .rflags);
       interruptibility = r .interruptibility;
-      valid = false;
+      event = record { info = bitAnd (w .event .info) 0x7FFFFFFF; code = w .event .code; length = w .event .length };
       window = choose (ℕ-discrete (basicReason r) 7) false (w .window);
       errorCode = r .code;
       instructionLength = r .length;
@@ -369,7 +405,11 @@ atFieldWrite w encoding value =
       hostRsp = choose (ℕ-discrete encoding 0x6C14) value (w .hostRsp);
       interruptFlag = choose (ℕ-discrete encoding 0x6820) (bit 9 value) (w .interruptFlag);
       interruptibility = choose (ℕ-discrete encoding 0x4824) value (w .interruptibility);
-      valid = choose (ℕ-discrete encoding 0x4016) (bit 31 value) (w .valid);
+      event = record {
+        info = choose (ℕ-discrete encoding 0x4016) value (w .event .info);
+        code = choose (ℕ-discrete encoding 0x4018) value (w .event .code);
+        length = choose (ℕ-discrete encoding 0x401A) value (w .event .length);
+      };
       window = choose (ℕ-discrete encoding 0x4002) (bit 2 value) (w .window);
       errorCode = w .errorCode;
       instructionLength = w .instructionLength;
@@ -384,7 +424,7 @@ abbrev pub wordsBy : Reference → Call → Words
 wordsBy p (setup block a b msr) = atSetup (p .words) block
 wordsBy p (queueEvent vector coded code) = p .words
 wordsBy p (injectInterrupt vector) = p .words
-wordsBy p (entry stack) = atEntry (p .words) stack (answerOn (p .pending) (p .words .interruptFlag) (p .words .interruptibility))
+wordsBy p (entry stack) = atEntry (p .words) stack (answerOn (p .pending) (p .words .interruptFlag) (p .words .interruptibility)) (p .pending)
 -- a failed entry ends the session
 wordsBy p (exitReport block) = cond (bit 31 (reportOf block .reason)) (inPhase (p .words) 4) (atExit (p .words) (reportOf block))
 wordsBy p (apicValue value) = inPhase (p .words) 1
@@ -517,22 +557,3 @@ Untaken p c = ⊥
 -- 2 for the record comes first, whatever the call
 abbrev pub rules : Reference → Call → List Rule
 rules p c = by 2 (Untaken p c) ∷ ownRules p c
-
--- ---- the entry interruption word of a vector, by bits
-
--- the interruption types of vectors 0 to 31; the others have type 0
-abbrev pub types : List ℕ
-types =
-    3 ∷ 5 ∷ 2 ∷ 6 ∷ 6 ∷ 3 ∷ 3 ∷ 3 ∷ 3 ∷ 3 ∷ 3 ∷ 3 ∷ 3 ∷ 3 ∷ 3 ∷ 3
-    ∷ 3 ∷ 3 ∷ 3 ∷ 3 ∷ 3 ∷ 7 ∷ 7 ∷ 7 ∷ 7 ∷ 7 ∷ 7 ∷ 7 ∷ 7 ∷ 7 ∷ 7 ∷ 7 ∷ []
-
--- 1 for the vectors that carry an error code: 8, 10 to 14, 17
-abbrev pub codes : List ℕ
-codes = 0 ∷ 0 ∷ 0 ∷ 0 ∷ 0 ∷ 0 ∷ 0 ∷ 0 ∷ 1 ∷ 0 ∷ 1 ∷ 1 ∷ 1 ∷ 1 ∷ 1 ∷ 0 ∷ 0 ∷ 1 ∷ []
-
-pub record Word (v w : ℕ) : Type 0 where
-  pub vector : w % 2 ^ 8 ≡ v
-  pub kind : w / 2 ^ 8 % 8 ≡ getD types v 0
-  pub code : w / 2 ^ 11 % 2 ≡ getD codes v 0
-  pub zeros : w / 2 ^ 12 % 2 ^ 19 ≡ 0
-  pub valid : w / 2 ^ 31 ≡ 1

@@ -1,18 +1,19 @@
--- What an accepted exit leaves in the fields that its handling writes: CR0, CR4, their masks and the primary controls, as the reference has them. Assumes nothing.
-use Prim.Native.Nat.{ℕ, _+_, _<_, _^_}
+-- What an accepted exit leaves in the fields that its handling writes: CR0, CR4, their masks, the primary and the entry controls, as the reference has them. Assumes nothing.
+use Prim.Native.Nat.{ℕ, _+_, _<_}
 use mathlib.Core.Path.{_≡_, refl, sym, ap, _∙_}
-use mathlib.Core.Bool.{Bool, true, false, and-false}
+use mathlib.Core.Bool.{Bool, true, false, cond, true≢false}
 use mathlib.Core.List.{List, [], _∷_}
 use mathlib.Core.Logic.{inl, inr}
 use native.Mathlib.Decide.{ℕ-discrete}
 use native.Mathlib.Omega.{arith}
+use lib.Bits.{bitAnd}
 use lib.Dec.{eqb, lit<}
 use borrow.Author.Tests.{eqb-true, eqb-false}
-use Rattle.bits.specs.Words.{bit, bitNot}
-use Rattle.bits.proofs.BitLaws.{bit-and}
+use Rattle.bits.specs.Words.{bit}
 use Rattle.bits.proofs.Tells.{cond-all}
 use Rattle.vmcs.specs.Cr.{cr0Words, cr4Words, cr0Writes, cr4Writes}
-use Rattle.vmcs.specs.Efer.{updateEfer}
+use Rattle.vmcs.specs.Control.{controlWord}
+use Rattle.vmcs.specs.Efer.{isLongMode, lacksIa32e, updateEfer}
 use Rattle.vmcs.specs.Field.{Field, placeOf, sizeOf, valueOf}
 use Rattle.vmcs.specs.Flags.Cr0Flags as Cr0Flags
 use Rattle.vmcs.specs.Names.VmcsControl32 as VmcsControl32
@@ -22,37 +23,49 @@ use Rattle.vmcs.specs.Names.VmcsGuest64 as VmcsGuest64
 use Rattle.vmcs.specs.Names.VmcsGuestNW as VmcsGuestNW
 use Rattle.vmcs.specs.Writes.{Write, _≔_, applied, lastOf, Sized}
 use Rattle.vmcs.specs.declared.Vmcs.{Vmcs}
+use Rattle.vmcs.specs.declared.controls.Pair.{Pair}
 use Rattle.vmcs.proofs.WriteLaws.{read-applied, sized-applied}
 use Rattle.vcpu_session.specs.Session.{VMX_PREEMPTION_TIMER_SET_VALUE}
 use Rattle.vcpu_session.specs.declared.Capabilities.{Capabilities}
 use Rattle.vcpu_events.specs.Entry.{windowWord, windowSet}
 use Rattle.vcpu_exit.specs.Reading.{movedValue, isMoveTo, advanceOf}
-use Rattle.vcpu_exit.specs.Refusal.{otherAccess, entryPair}
+use Rattle.vcpu_exit.specs.Refusal.{otherAccess, eferRefusal, entryPair}
 use Rattle.vcpu_exit.specs.declared.Report.{Report}
 use Rattle.vcpu_report.specs.Handlers.{reportWrites, stored, timerSet, cr0Set, cr4Set, eferWrites, eferUpdated, crHandled, handledAs, handled, ripAdvanced, vmcsAfter}
 use Rattle.vcpu_report.specs.Laws.{oneOf}
 use Rattle.vcpu_report.proofs.Steps.{fieldsOf, untouched}
-use Rattle.calls.specs.Reference.{choose, basicReason, MovToCr, movToCr, movSource, crValue, crMask, cr0Bounds, cr4Asked}
+use Rattle.calls.specs.Reference.{choose, basicReason, MovToCr, movToCr, movSource, SetsIa32e, setsIa32e, controlValue, crValue, crMask, cr0Bounds, cr4Asked}
 use Rattle.calls.specs.Calls.{limitsIn}
-use Rattle.calls.proofs.Choices.{choose-yes, choose-no, choose-ap}
-use Rattle.calls.proofs.ReportNumbers.{move-tells, access-tells, moved-agrees}
+use Rattle.calls.proofs.Choices.{choose-yes, choose-no}
+use Rattle.calls.proofs.ReportNumbers.{move-tells, access-tells, moved-agrees, clear-tells, long-tells, stuck, stuck-tells, efer-number}
 
 -- ---- one way of handling after another
 
 module _ (c : Capabilities) (r : Report) (P : Vmcs → Type 0) (u : Vmcs) where
   by-handling : (basicReason r ≡ 7 → P (windowSet u false)) → (basicReason r ≡ 52 → P (timerSet u))
       → (basicReason r ≡ 28 → MovToCr 4 r → P (cr4Set u (c .cr4) (movedValue r)))
-      → (basicReason r ≡ 28 → (MovToCr 4 r → ⊥) → P (cr0Set u (c .cr0) (movedValue r)))
-      → (P (cr0Set u (c .cr0) (movedValue r)) → P (eferUpdated (cr0Set u (c .cr0) (movedValue r)) (entryPair c) (r .efer)))
+      → (basicReason r ≡ 28 → (MovToCr 4 r → ⊥) → bit 31 (movedValue r) ≡ false → P (cr0Set u (c .cr0) (movedValue r)))
+      → (basicReason r ≡ 28 → (MovToCr 4 r → ⊥) → bit 31 (movedValue r) ≡ true → P (eferUpdated (cr0Set u (c .cr0) (movedValue r)) (entryPair c) (r .efer)))
       → ((basicReason r ≡ 7 → ⊥) → (basicReason r ≡ 28 → ⊥) → P u) → P (handled u c r)
   unfolding handledAs crHandled
-  by-handling window timer four zero efer none =
+  by-handling window timer four zero paging none =
       cond-all P (eqb (basicReason r) 7) _ _ (λ t. window (eqb-true _ _ t))
       (λ w. cond-all P (eqb (basicReason r) 52) _ _ (λ t. timer (eqb-true _ _ t))
       (λ _. cond-all P (eqb (basicReason r) 28) _ _
       (λ t. cond-all P (isMoveTo r 4) _ _ (λ m. four (eqb-true _ _ t) (move-tells r 4 .yes-so m))
-      (λ m. let z = zero (eqb-true _ _ t) (move-tells r 4 .not-so m) in cond-all P (bit Cr0Flags.PAGING (movedValue r)) _ _ (λ _. efer z) (λ _. z)))
+      (λ m.
+      let e = eqb-true _ _ t in
+      let n = move-tells r 4 .not-so m in
+      cond-all P (bit Cr0Flags.PAGING (movedValue r)) _ _ (paging e n) (zero e n)))
       (λ t. none (eqb-false _ _ w) (eqb-false _ _ t))))
+
+-- 18 has passed: a move that is not to CR4 is to CR0
+to-zero : (r : Report) → otherAccess r ≡ false → basicReason r ≡ 28 → (MovToCr 4 r → ⊥) → MovToCr 0 r
+to-zero r access e n = go (isMoveTo r 0) refl
+  where
+    go : (t : Bool) → isMoveTo r 0 ≡ t → MovToCr 0 r
+    go true t = move-tells r 0 .yes-so t
+    go false t = absurd (access-tells r .not-so access (e, λ m. elim m [ inl a ↦ move-tells r 0 .not-so t a | inr b ↦ n b ]))
 
 -- what is left in a field
 record Left (f : Field) (y : ℕ) (t : Vmcs) : Type 0 where
@@ -87,8 +100,9 @@ module _ (c : Capabilities) (r : Report) (u : Vmcs) (f : Field) (h : placeOf f <
       (λ e. kept (λ n. omega arith) (left-alone (VmcsControl32.PRIMARY_PROCBASED_EXEC_CONTROLS ≔ windowWord u false ∷ []) u f x h (free .primary) held))
       (λ e. kept (λ n. omega arith) (left-alone (VmcsGuest32.VMX_PREEMPTION_TIMER_VALUE ≔ VMX_PREEMPTION_TIMER_SET_VALUE ∷ []) u f x h (free .timer) held))
       (λ e m. left-by (writes4 c r) u f x h held (sym (choose-yes (movToCr 4 r) _ _ (e, m))))
-      (λ e n. left-by (writes0 c r) u f x h held (sym (choose-no (movToCr 4 r) _ _ (λ m. n (m .1)) ∙ choose-yes (movToCr 0 r) _ _ (e, to-zero e n))))
-      (λ l. left-alone (eferWrites (updateEfer (entryPair c) (r .efer) (valueOf (applied (writes0 c r) u) VmcsControl32.VMENTRY_CONTROLS))) (applied (writes0 c r) u) f y h (free .efer) l)
+      (λ e n _. zero e n)
+      (λ e n _. left-alone (eferWrites (updateEfer (entryPair c) (r .efer) (valueOf (applied (writes0 c r) u) VmcsControl32.VMENTRY_CONTROLS))) (applied (writes0 c r) u) f y h
+      (free .efer) (zero e n))
       (λ _ n. kept n held)
     where
       y : ℕ
@@ -97,34 +111,85 @@ module _ (c : Capabilities) (r : Report) (u : Vmcs) (f : Field) (h : placeOf f <
       kept : {t : Vmcs} → (basicReason r ≡ 28 → ⊥) → Left f x t → Left f y t
       kept n l = record { sized = l .sized; value = l .value ∙ sym (choose-no (movToCr 4 r) _ _ (λ m. n (m .0)) ∙ choose-no (movToCr 0 r) _ _ (λ m. n (m .0))) }
 
-      to-zero : basicReason r ≡ 28 → (MovToCr 4 r → ⊥) → MovToCr 0 r
-      to-zero e n = go (isMoveTo r 0) refl
-        where
-          go : (t : Bool) → isMoveTo r 0 ≡ t → MovToCr 0 r
-          go true t = move-tells r 0 .yes-so t
-          go false t = absurd (access-tells r .not-so access (e, λ m. elim m [ inl a ↦ move-tells r 0 .not-so t a | inr b ↦ n b ]))
+      zero : basicReason r ≡ 28 → (MovToCr 4 r → ⊥) → Left f y (applied (writes0 c r) u)
+      zero e n = left-by (writes0 c r) u f x h held (sym (choose-no (movToCr 4 r) _ _ (λ m. n (m .1)) ∙ choose-yes (movToCr 0 r) _ _ (e, to-zero r access e n)))
 
 -- of the primary controls
 primary-field : (c : Capabilities) (r : Report) (u : Vmcs) (x : ℕ) → Left VmcsControl32.PRIMARY_PROCBASED_EXEC_CONTROLS x u
-    → Left VmcsControl32.PRIMARY_PROCBASED_EXEC_CONTROLS (choose (ℕ-discrete (basicReason r) 7) (windowWord u false) x) (handled u c r)
+    → Left VmcsControl32.PRIMARY_PROCBASED_EXEC_CONTROLS (choose (ℕ-discrete (basicReason r) 7) (bitAnd x 0xFFFFFFFB) x) (handled u c r)
 unfolding windowSet timerSet cr4Set cr0Set eferUpdated
 primary-field c r u x held =
     by-handling c r (Left f y) u
-    (λ e. left-by (f ≔ windowWord u false ∷ []) u f x (lit< tt) held (sym (choose-yes (ℕ-discrete (basicReason r) 7) _ _ e)))
+    (λ e. left-by (f ≔ windowWord u false ∷ []) u f x (lit< tt) held
+    (ap (λ (z : ℕ). bitAnd z 0xFFFFFFFB) (held .value) ∙ sym (choose-yes (ℕ-discrete (basicReason r) 7) _ _ e)))
     (λ e. kept (λ n. omega arith) (left-alone (VmcsGuest32.VMX_PREEMPTION_TIMER_VALUE ≔ VMX_PREEMPTION_TIMER_SET_VALUE ∷ []) u f x (lit< tt) refl held))
     (λ e m. kept (λ n. omega arith) (left-alone (writes4 c r) u f x (lit< tt) refl held))
-    (λ e m. kept (λ n. omega arith) (left-alone (writes0 c r) u f x (lit< tt) refl held))
-    (λ l. left-alone (eferWrites (updateEfer (entryPair c) (r .efer) (valueOf (applied (writes0 c r) u) VmcsControl32.VMENTRY_CONTROLS))) (applied (writes0 c r) u) f y (lit< tt) refl l)
+    (λ e m _. kept (λ n. omega arith) (left-alone (writes0 c r) u f x (lit< tt) refl held))
+    (λ e m _. kept (λ n. omega arith)
+    (left-alone (eferWrites (updateEfer (entryPair c) (r .efer) (valueOf (applied (writes0 c r) u) VmcsControl32.VMENTRY_CONTROLS))) (applied (writes0 c r) u) f x (lit< tt) refl
+    (left-alone (writes0 c r) u f x (lit< tt) refl held)))
     (λ n _. kept n held)
   where
     f : Field
     f = VmcsControl32.PRIMARY_PROCBASED_EXEC_CONTROLS
 
     y : ℕ
-    y = choose (ℕ-discrete (basicReason r) 7) (windowWord u false) x
+    y = choose (ℕ-discrete (basicReason r) 7) (bitAnd x 0xFFFFFFFB) x
 
     kept : {t : Vmcs} → (basicReason r ≡ 7 → ⊥) → Left f x t → Left f y t
     kept n l = record { sized = l .sized; value = l .value ∙ sym (choose-no (ℕ-discrete (basicReason r) 7) _ _ n) }
+
+-- 8 has passed: where entry bit 9 is to be set, it may be
+may-set : (pair : Pair) (word : ℕ) (r : Report) → eferRefusal pair word r ≡ 0 → SetsIa32e r → lacksIa32e (pair .allowed1) ≡ false
+may-set pair word r e sets = go (lacksIa32e (pair .allowed1)) refl
+  where
+    none : (b : Bool) → cond {A = ℕ} b 8 0 ≡ 0 → b ≡ false
+    none true z = absurd (omega arith)
+    none false z = refl
+
+    go : (t : Bool) → lacksIa32e (pair .allowed1) ≡ t → lacksIa32e (pair .allowed1) ≡ false
+    go true t = absurd (stuck-tells pair r .not-so (none (stuck pair r) (sym (efer-number pair word r) ∙ e)) (sets, clear-tells (pair .allowed1) .yes-so t))
+    go false t = t
+
+-- the entry word where a move to CR0 turns paging on
+paging-entry : (c : Capabilities) (r : Report) (word x : ℕ) → eferRefusal (entryPair c) word r ≡ 0 → ((basicReason r ≡ 28) × MovToCr 0 r) → bit 31 (movSource r) ≡ true
+    → updateEfer (entryPair c) (r .efer) x .entry ≡ choose (setsIa32e r) (controlValue (limitsIn c .entry) x 0x200 0) x
+unfolding updateEfer controlWord
+paging-entry c r word x ok move on = go (isLongMode (r .efer)) refl
+  where
+    go : (t : Bool) → isLongMode (r .efer) ≡ t → updateEfer (entryPair c) (r .efer) x .entry ≡ choose (setsIa32e r) (controlValue (limitsIn c .entry) x 0x200 0) x
+    go true t = rw t (sym (choose-no (setsIa32e r) _ _ (λ m. m .1 .1 (long-tells r .yes-so t))))
+    go false t =
+        let sets : SetsIa32e r = (move, (on, long-tells r .not-so t)) in
+        rw (t, may-set (entryPair c) word r ok sets) (sym (choose-yes (setsIa32e r) _ _ sets))
+
+-- of the entry controls
+entry-field : (c : Capabilities) (r : Report) (u : Vmcs) (word x : ℕ) → otherAccess r ≡ false → eferRefusal (entryPair c) word r ≡ 0
+    → Left VmcsControl32.VMENTRY_CONTROLS x u
+    → Left VmcsControl32.VMENTRY_CONTROLS (choose (setsIa32e r) (controlValue (limitsIn c .entry) x 0x200 0) x) (handled u c r)
+unfolding windowSet timerSet cr4Set cr0Set eferUpdated
+entry-field c r u word x access ok held =
+    by-handling c r (Left f y) u
+    (λ e. kept (λ m. omega (arith, m .0 .0)) (left-alone (VmcsControl32.PRIMARY_PROCBASED_EXEC_CONTROLS ≔ windowWord u false ∷ []) u f x (lit< tt) refl held))
+    (λ e. kept (λ m. omega (arith, m .0 .0)) (left-alone (VmcsGuest32.VMX_PREEMPTION_TIMER_VALUE ≔ VMX_PREEMPTION_TIMER_SET_VALUE ∷ []) u f x (lit< tt) refl held))
+    (λ e m. kept (λ n. omega (arith, m .1, n .0 .1 .1)) (left-alone (writes4 c r) u f x (lit< tt) refl held))
+    (λ e n z. kept (λ m. true≢false (sym (m .1 .0) ∙ ap (bit 31) (sym (moved-agrees r)) ∙ z)) zero)
+    (λ e n z. left-by (eferWrites (updateEfer (entryPair c) (r .efer) (valueOf (applied (writes0 c r) u) f))) (applied (writes0 c r) u) f x (lit< tt) zero
+    (ap (λ (w : ℕ). updateEfer (entryPair c) (r .efer) w .entry) (zero .value)
+    ∙ paging-entry c r word x ok (e, to-zero r access e n) (ap (bit 31) (sym (moved-agrees r)) ∙ z)))
+    (λ _ n. kept (λ m. n (m .0 .0)) held)
+  where
+    f : Field
+    f = VmcsControl32.VMENTRY_CONTROLS
+
+    y : ℕ
+    y = choose (setsIa32e r) (controlValue (limitsIn c .entry) x 0x200 0) x
+
+    kept : {t : Vmcs} → (SetsIa32e r → ⊥) → Left f x t → Left f y t
+    kept n l = record { sized = l .sized; value = l .value ∙ sym (choose-no (setsIa32e r) _ _ n) }
+
+    zero : Left f x (applied (writes0 c r) u)
+    zero = left-alone (writes0 c r) u f x (lit< tt) refl held
 
 -- ---- the whole exit
 
@@ -147,13 +212,18 @@ module _ (v : Vmcs) (c : Capabilities) (r : Report) (sized : Sized v) where
   unfolding vmcsAfter ripAdvanced
   advanced f h e {y} l = left-alone (VmcsGuestNW.RIP ≔ (r .rip + advanceOf r) ∷ []) (handled (stored v r) c r) f y h e l .value
 
-  pub exit-window : bit 2 (valueOf (vmcsAfter v c r) VmcsControl32.PRIMARY_PROCBASED_EXEC_CONTROLS)
-      ≡ choose (ℕ-discrete (basicReason r) 7) false (bit 2 (valueOf v VmcsControl32.PRIMARY_PROCBASED_EXEC_CONTROLS))
-  exit-window =
+  pub exit-primary : valueOf (vmcsAfter v c r) VmcsControl32.PRIMARY_PROCBASED_EXEC_CONTROLS
+      ≡ choose (ℕ-discrete (basicReason r) 7) (bitAnd (valueOf v VmcsControl32.PRIMARY_PROCBASED_EXEC_CONTROLS) 0xFFFFFFFB)
+      (valueOf v VmcsControl32.PRIMARY_PROCBASED_EXEC_CONTROLS)
+  exit-primary =
       let f = VmcsControl32.PRIMARY_PROCBASED_EXEC_CONTROLS in
-      ap (bit 2) (advanced f (lit< tt) refl (primary-field c r (stored v r) (valueOf v f) (stored-left f (lit< tt))))
-      ∙ choose-ap (bit 2) (ℕ-discrete (basicReason r) 7) _ _
-      ∙ ap (λ (b : Bool). choose (ℕ-discrete (basicReason r) 7) b (bit 2 (valueOf v f))) (bit-and 2 (valueOf (stored v r) f) (bitNot 32 (2 ^ 2)) ∙ and-false (bit 2 (valueOf (stored v r) f)))
+      advanced f (lit< tt) refl (primary-field c r (stored v r) (valueOf v f) (stored-left f (lit< tt)))
+
+  pub exit-entry : (word : ℕ) → otherAccess r ≡ false → eferRefusal (entryPair c) word r ≡ 0 → valueOf (vmcsAfter v c r) VmcsControl32.VMENTRY_CONTROLS
+      ≡ choose (setsIa32e r) (controlValue (limitsIn c .entry) (valueOf v VmcsControl32.VMENTRY_CONTROLS) 0x200 0) (valueOf v VmcsControl32.VMENTRY_CONTROLS)
+  exit-entry word access ok =
+      let f = VmcsControl32.VMENTRY_CONTROLS in
+      advanced f (lit< tt) refl (entry-field c r (stored v r) word (valueOf v f) access ok (stored-left f (lit< tt)))
 
   module _ (access : otherAccess r ≡ false) where
     apart : (basicReason r ≡ 28) × MovToCr 4 r → (basicReason r ≡ 28) × MovToCr 0 r → ⊥

@@ -162,7 +162,7 @@ unfolding pastEnd
 end-tells r = tells-as (tells-is (ap (λ (n : ℕ). ltb (2 ^ 64 - 1) (r .rip + n)) (advance-agrees r)) (tells-ltb (2 ^ 64 - 1) (r .rip + advance r))) (λ h. h)
     (λ h. h)
 
-clear-tells : (a : ℕ) → Tells (lacksIa32e a) (bit 9 a ≡ false)
+pub clear-tells : (a : ℕ) → Tells (lacksIa32e a) (bit 9 a ≡ false)
 unfolding lacksIa32e
 clear-tells a = tells-is (flip (a / 2 ^ 9)) (tells-off (bit 9 a))
   where
@@ -173,7 +173,7 @@ clear-tells a = tells-is (flip (a / 2 ^ 9)) (tells-off (bit 9 a))
         go true e = rw (eqb-true (n % 2) 1 e)
         go false e = eq-eqb (n % 2) 0 (let z = eqb-false (n % 2) 1 e in omega arith)
 
-long-tells : (r : Report) → Tells (isLongMode (r .efer)) ((bit 8 (r .efer) ≡ true) × (bit 10 (r .efer) ≡ true))
+pub long-tells : (r : Report) → Tells (isLongMode (r .efer)) ((bit 8 (r .efer) ≡ true) × (bit 10 (r .efer) ≡ true))
 unfolding isLongMode
 long-tells r = tells-and (tells-on (bit 8 (r .efer))) (tells-on (bit 10 (r .efer)))
 
@@ -183,15 +183,15 @@ paging-tells r =
     tells-and (tells-and (tells-eq (basicReason r) 28) (move-tells r 0)) (tells-is (ap (bit 31) (moved-agrees r)) (tells-on (bit 31 (movSource r))))
 
 -- the three tests of 8, joined
-abbrev stuck : Pair → Report → Bool
+abbrev pub stuck : Pair → Report → Bool
 stuck pair r = turnsPagingOn r && (not (isLongMode (r .efer)) && lacksIa32e (pair .allowed1))
 
-stuck-tells : (pair : Pair) (r : Report) → Tells (stuck pair r) (SetsIa32e r × (bit 9 (pair .allowed1) ≡ false))
+pub stuck-tells : (pair : Pair) (r : Report) → Tells (stuck pair r) (SetsIa32e r × (bit 9 (pair .allowed1) ≡ false))
 stuck-tells pair r =
     tells-as (tells-and (paging-tells r) (tells-and (tells-not (long-tells r)) (clear-tells (pair .allowed1))))
-    (λ x. ((x .0 .0 .0, x .0 .0 .1, x .0 .1, x .1 .0), x .1 .1)) (λ x. (((x .0 .0, x .0 .1), x .0 .2), (x .0 .3, x .1)))
+    (λ x. ((x .0 .0, (x .0 .1, x .1 .0)), x .1 .1)) (λ x. ((x .0 .0, x .0 .1 .0), (x .0 .1 .1, x .1)))
 
-efer-number : (pair : Pair) (entry : ℕ) (r : Report) → eferRefusal pair entry r ≡ cond (stuck pair r) 8 0
+pub efer-number : (pair : Pair) (entry : ℕ) (r : Report) → eferRefusal pair entry r ≡ cond (stuck pair r) 8 0
 unfolding eferRefusal updateEfer
 efer-number pair entry r = go (turnsPagingOn r) (isLongMode (r .efer)) (lacksIa32e (pair .allowed1)) _ _ _ _ _ _
   where

@@ -129,7 +129,7 @@ or-none : (a : ℕ) → orElse a 0 ≡ a
 unfolding orElse
 or-none a = cond-all (λ (x : ℕ). x ≡ a) (eqb a 0) _ _ (λ t. sym (eqb-true a 0 t)) (λ _. refl)
 
-secondary-set : (f : Features) → secondarySet f ≡ 0x82 + 0x8 * flag (f .rdtscp) + 0x1000 * flag (f .invpcid) + 0x100000 * flag (f .xsaves)
+pub secondary-set : (f : Features) → secondarySet f ≡ 0x82 + 0x8 * flag (f .rdtscp) + 0x1000 * flag (f .invpcid) + 0x100000 * flag (f .xsaves)
 secondary-set f = go (f .rdtscp) (f .invpcid) (f .xsaves)
   where
     go : (a b c : Bool) → secondarySet (record { rdtscp = a; invpcid = b; xsaves = c }) ≡ 0x82 + 0x8 * flag a + 0x1000 * flag b + 0x100000 * flag c

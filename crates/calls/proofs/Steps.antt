@@ -1,7 +1,7 @@
 -- One call on a session: it goes as the reference does, and is refused exactly where its numbers say. One lemma for each call. Assumes nothing.
 use Prim.Native.Nat.{ℕ, zero, suc, _+_, _-_, _/_, _%_, _^_, _<_, _≤_}
 use mathlib.Core.Path.{_≡_, refl, sym, ap, _∙_, subst}
-use mathlib.Core.Bool.{Bool, true, false, cond, not, _&&_, _||_, or-true, true≢false}
+use mathlib.Core.Bool.{Bool, true, false, cond, not, true≢false}
 use mathlib.Core.List.{List, [], _∷_, _++_, List·Memᴰ}
 use mathlib.Core.Logic.{_⊎_, _≢_, inl, inr}
 use mathlib.Core.Option.{some, none, Option·getD}
@@ -10,11 +10,10 @@ use native.Mathlib.Omega.{arith}
 use native.Mathlib.Numerals.{add-one}
 use lib.ListN.{length, getD, take, drop, set}
 use lib.Seq.{take-suc-set, length-take-le}
-use lib.Bits.{bitAnd, bitOr}
+use lib.Bits.{bitOr}
 use lib.Dec.{eqb, ltb, leb, lit<, eqb·suc-zero}
 use borrow.Author.Tests.{eqb-true, eqb-false, leb-true, leb-false, ltb-true, ltb-false, not-true, not-false}
-use Rattle.bits.specs.Words.{bit, bitNot, withBit, low32, high32}
-use Rattle.bits.proofs.BitLaws.{bit-and, bit-or, bit-not}
+use Rattle.bits.specs.Words.{bit, withBit, low32}
 use Rattle.vmcs.specs.Control.{controlWord}
 use Rattle.vmcs.specs.Field.{Field, placeOf, sizeOf, valueOf, put}
 use Rattle.vmcs.specs.declared.Vmcs.{Vmcs}
@@ -50,7 +49,7 @@ use Rattle.vcpu_setup.specs.declared.Arguments.{Arguments}
 use Rattle.vmcs.specs.Writes.{sameField, Sized}
 use Rattle.vcpu_setup.specs.Capability.{capabilitiesOf}
 use Rattle.vcpu_setup.specs.Laws.{Typed, SetUp}
-use Rattle.vcpu_setup.specs.Words.{primarySet, primaryClear, setupWords}
+use Rattle.vcpu_setup.specs.Words.{setupWords}
 use Rattle.vcpu_setup.proofs.SetupLaws.{set-up, setup-number, refused-keeps}
 use Rattle.vcpu_exit.specs.Refusal.{reportRefusal}
 use Rattle.vcpu_report.specs.declared.Reported.{Reported}
@@ -68,7 +67,7 @@ use Rattle.call_specs.specs.Records.{queueStep}
 use Rattle.bits.specs.Refuses.{by, Refuses}
 use Rattle.bits.proofs.Tells.{Tells, tells-eq, tells-leb, tells-and, tells-or, tells-not, tells-as, cond-all}
 use Rattle.calls.specs.Moves.{Move, queues, exits, fails, rests, moved, answerOf, Tally, tallied}
-use Rattle.calls.specs.Reference.{choose, Call, setup, queueEvent, injectInterrupt, entry, exitReport, apicValue, fieldWrite, registerWrite, WellTyped, Event, entryMove, moveBy, Limits, msrAt, IsHeld, isHeld, answerOn, moveOn, Reference, types, codes, isSoft, eventFields, eventBy, windowBy, inPhase, atSetup, atEntry, atExit, atFieldWrite, wordsBy, referenceStep, referenceAnswer, Buffers, setupRules, reportRules, ownRules}
+use Rattle.calls.specs.Reference.{choose, Call, setup, queueEvent, injectInterrupt, entry, exitReport, apicValue, fieldWrite, registerWrite, WellTyped, Event, entryMove, moveBy, Limits, msrAt, limitsOf, controlValue, IsHeld, isHeld, answerOn, moveOn, Reference, types, codes, isSoft, eventFields, eventBy, controlsBy, inPhase, atSetup, atEntry, atExit, atFieldWrite, wordsBy, referenceStep, referenceAnswer, Buffers, setupRules, reportRules, ownRules}
 use Rattle.calls.specs.Calls.{Outcome, Logged, isRefused, eventOf, eventsOf, waitingOf, limitsIn, wordsOf, moveOf}
 use Rattle.calls.proofs.Choices.{impossible, choose-no, choose-ap}
 use Rattle.calls.proofs.Events.{events-set, events-long, events-shifted, events-front}
@@ -76,9 +75,9 @@ use Rattle.calls.proofs.RawWrites.{Names, raw-read, placed-listed, list
 use Rattle.calls.proofs.WordBits.{tabled}
 use Rattle.calls.proofs.Fields.{put-own, same-stack, same-window, same-injected, entryFields, same-entered, injected-word, injected-code, injected-long}
 use Rattle.calls.proofs.Sessions.{hasBuffers, left, entering, sessionStep, Sound, sound-sized, sound-alike, viewOf}
-use Rattle.calls.proofs.SetupNumbers.{buffers-of, of-buffers, setup-refuses, same-limits}
+use Rattle.calls.proofs.SetupNumbers.{buffers-of, of-buffers, setup-refuses, same-limits, secondary-set}
 use Rattle.calls.proofs.SetupFits.{typed}
-use Rattle.calls.proofs.Handled.{exit-window, exit-cr0, exit-cr0-mask, exit-cr4, exit-cr4-mask}
+use Rattle.calls.proofs.Handled.{exit-primary, exit-entry, exit-cr0, exit-cr0-mask, exit-cr4, exit-cr4-mask}
 use Rattle.calls.proofs.ReportNumbers.{picks, phase-agrees, report-refuses}
 
 -- what is logged of a call on s that comes to o
@@ -185,31 +184,8 @@ block-features : (block : List ℕ) → argumentsOf block .features ≡ features
 unfolding argumentsOf
 block-features block = refl
 
--- primary bit 2, which setup neither sets nor clears
-first-window : (must may old : ℕ) → must < 2 ^ 32
-    → bit 2 (controlWord 32 must may old primarySet primaryClear) ≡ (bit 2 must || (bit 2 may && bit 2 old))
-unfolding controlWord
-first-window must may old h =
-    let free = bitNot 32 (bitOr primarySet primaryClear) in
-    let loose = bitAnd (bitNot 32 must) may in
-    rw (
-      bit-or 2 (bitOr must (bitAnd (bitAnd loose free) old)) primarySet,
-      bit-or 2 must (bitAnd (bitAnd loose free) old),
-      bit-and 2 (bitAnd loose free) old,
-      bit-and 2 loose free,
-      bit-and 2 (bitNot 32 must) may,
-      bit-not 32 2 must (lit< tt) h,
-    )
-    (go (bit 2 must) (bit 2 may) (bit 2 old))
-  where
-    go : (a b o : Bool) → ((a || (((not a && b) && true) && o)) || false) ≡ (a || (b && o))
-    go true b o = refl
-    go false true true = refl
-    go false true false = refl
-    go false false o = refl
-
 setup-words : (s r : Session) (block : List ℕ) → SetUp s (argumentsOf block) r → wordsOf r ≡ atSetup (wordsOf s) block
-unfolding setupWrites setupWords argumentsOf msrsOf
+unfolding setupWrites setupWords controlWord argumentsOf msrsOf
 setup-words s r block u =
     λ i. record {
       phase = u .phase i;
@@ -222,9 +198,14 @@ setup-words s r block u =
         code = u .fields VmcsControl32.VMENTRY_EXCEPTION_ERR_CODE (lit< tt) i;
         length = u .fields VmcsControl32.VMENTRY_INSTRUCTION_LEN (lit< tt) i;
       };
-      window = (ap (bit 2) (u .fields VmcsControl32.PRIMARY_PROCBASED_EXEC_CONTROLS (lit< tt))
-          ∙ first-window (low32 (msrAt Layout.TRUE_PROCBASED_CTLS block)) (high32 (msrAt Layout.TRUE_PROCBASED_CTLS block))
-          (low32 (msrAt Layout.PROCBASED_CTLS block)) (omega arith)) i;
+      controls = record {
+        pin = u .fields VmcsControl32.PINBASED_EXEC_CONTROLS (lit< tt) i;
+        primary = u .fields VmcsControl32.PRIMARY_PROCBASED_EXEC_CONTROLS (lit< tt) i;
+        secondary = (u .fields VmcsControl32.SECONDARY_PROCBASED_EXEC_CONTROLS (lit< tt)
+            ∙ ap (λ (x : ℕ). controlValue (limitsOf block .secondary) (low32 (msrAt Layout.PROCBASED_CTLS2 block)) x 0) (secondary-set (featuresOf block))) i;
+        exit = u .fields VmcsControl32.VMEXIT_CONTROLS (lit< tt) i;
+        entry = u .fields VmcsControl32.VMENTRY_CONTROLS (lit< tt) i;
+      };
       errorCode = u .fields VmcsReadOnly32.VMEXIT_INTERRUPTION_ERR_CODE (lit< tt) i;
       instructionLength = u .fields VmcsReadOnly32.VMEXIT_INSTRUCTION_LEN (lit< tt) i;
       cr0 = u .fields VmcsGuestNW.CR0 (lit< tt) i;
@@ -461,9 +442,9 @@ module _ (t : Tally Event) (s : Session) (stack : ℕ) (h : Sound s) where
       let some-wait = written-waits s e in
       event-written some-wait ∙ ap (λ (w : List Event). eventBy Written w (wordsOf s)) (sym (front-waits s h some-wait))
 
-  window-so : (a : Injection) → wordsOf (afterEntry s stack a) .window ≡ windowBy a (wordsOf s .window)
+  primary-so : (a : Injection) → valueOf (afterEntry s stack a .vmcs) VmcsControl32.PRIMARY_PROCBASED_EXEC_CONTROLS ≡ controlsBy a (wordsOf s .controls) .primary
   unfolding afterEntry vmcsAfter windowSet
-  window-so a = go a
+  primary-so a = go a
     where
       f : Field
       f = VmcsControl32.PRIMARY_PROCBASED_EXEC_CONTROLS
@@ -471,10 +452,30 @@ module _ (t : Tally Event) (s : Session) (stack : ℕ) (h : Sound s) where
       same : valueOf begun f ≡ valueOf (s .vmcs) f
       same = same-stack f (lit< tt) (s .vmcs) (s .progress .launched) stack (sound-sized s h) refl .value
 
-      go : (a : Injection) → bit 2 (valueOf (vmcsAfter begun (frontOf (s .queue)) a) f) ≡ windowBy a (bit 2 (valueOf (s .vmcs) f))
-      go Empty = ap (bit 2) same
-      go Held = ap (bit 2) (put-own begun f _ stacked (lit< tt)) ∙ bit-or 2 (valueOf begun f) 4 ∙ or-true (bit 2 (valueOf begun f))
-      go Written = ap (bit 2) (same-injected f (lit< tt) begun (frontOf (s .queue)) stacked refl refl refl .value ∙ same)
+      go : (a : Injection) → valueOf (vmcsAfter begun (frontOf (s .queue)) a) f ≡ controlsBy a (wordsOf s .controls) .primary
+      go Empty = same
+      go Held = put-own begun f _ stacked (lit< tt) ∙ ap (λ (x : ℕ). bitOr x 0x4) same
+      go Written = same-injected f (lit< tt) begun (frontOf (s .queue)) stacked refl refl refl .value ∙ same
+
+  controls-so : (a : Injection) → wordsOf (afterEntry s stack a) .controls ≡ controlsBy a (wordsOf s .controls)
+  controls-so a = (λ i. record {
+    pin = kept VmcsControl32.PINBASED_EXEC_CONTROLS (lit< tt) refl a i;
+    primary = primary-so a i;
+    secondary = kept VmcsControl32.SECONDARY_PROCBASED_EXEC_CONTROLS (lit< tt) refl a i;
+    exit = kept VmcsControl32.VMEXIT_CONTROLS (lit< tt) refl a i;
+    entry = kept VmcsControl32.VMENTRY_CONTROLS (lit< tt) refl a i;
+  }) ∙ go a
+    where
+      go : (a : Injection) → record {
+        pin = wordsOf s .controls .pin;
+        primary = controlsBy a (wordsOf s .controls) .primary;
+        secondary = wordsOf s .controls .secondary;
+        exit = wordsOf s .controls .exit;
+        entry = wordsOf s .controls .entry;
+      } ≡ controlsBy a (wordsOf s .controls)
+      go Empty = refl
+      go Held = refl
+      go Written = refl
 
   pub rsp-after : (a : Injection) → valueOf (afterEntry s stack a .vmcs) VmcsHostNW.RSP ≡ cond (s .progress .launched) (valueOf (s .vmcs) VmcsHostNW.RSP) stack
   unfolding afterEntry withStack
@@ -494,7 +495,7 @@ module _ (t : Tally Event) (s : Session) (stack : ℕ) (h : Sound s) where
         interruptFlag = bit 9 (kept VmcsGuestNW.RFLAGS (lit< tt) refl a i);
         interruptibility = kept VmcsGuest32.INTERRUPTIBILITY_STATE (lit< tt) refl a i;
         event = event-so a e i;
-        window = window-so a i;
+        controls = controls-so a i;
         errorCode = kept VmcsReadOnly32.VMEXIT_INTERRUPTION_ERR_CODE (lit< tt) refl a i;
         instructionLength = kept VmcsReadOnly32.VMEXIT_INSTRUCTION_LEN (lit< tt) refl a i;
         cr0 = kept VmcsGuestNW.CR0 (lit< tt) refl a i;
@@ -579,7 +580,11 @@ record Named : Type 0 where
   info : Names 0x4016 VmcsControl32.VMENTRY_INTERRUPTION_INFO_FIELD
   code : Names 0x4018 VmcsControl32.VMENTRY_EXCEPTION_ERR_CODE
   length : Names 0x401A VmcsControl32.VMENTRY_INSTRUCTION_LEN
+  pin : Names 0x4000 VmcsControl32.PINBASED_EXEC_CONTROLS
   primary : Names 0x4002 VmcsControl32.PRIMARY_PROCBASED_EXEC_CONTROLS
+  secondary : Names 0x401E VmcsControl32.SECONDARY_PROCBASED_EXEC_CONTROLS
+  exit : Names 0x400C VmcsControl32.VMEXIT_CONTROLS
+  entry : Names 0x4012 VmcsControl32.VMENTRY_CONTROLS
   errorCode : Names 0x4406 VmcsReadOnly32.VMEXIT_INTERRUPTION_ERR_CODE
   instructionLength : Names 0x440C VmcsReadOnly32.VMEXIT_INSTRUCTION_LEN
   cr0 : Names 0x6800 VmcsGuestNW.CR0
@@ -597,7 +602,11 @@ names =
       info = record { listed = lit< tt; field = refl; within = lit< tt };
       code = record { listed = lit< tt; field = refl; within = lit< tt };
       length = record { listed = lit< tt; field = refl; within = lit< tt };
+      pin = record { listed = lit< tt; field = refl; within = lit< tt };
       primary = record { listed = lit< tt; field = refl; within = lit< tt };
+      secondary = record { listed = lit< tt; field = refl; within = lit< tt };
+      exit = record { listed = lit< tt; field = refl; within = lit< tt };
+      entry = record { listed = lit< tt; field = refl; within = lit< tt };
       errorCode = record { listed = lit< tt; field = refl; within = lit< tt };
       instructionLength = record { listed = lit< tt; field = refl; within = lit< tt };
       cr0 = record { listed = lit< tt; field = refl; within = lit< tt };
@@ -632,7 +641,13 @@ module _ (s : Session) (e v : ℕ) (found : positionOf encodings e < 154) (h : S
           code = read 0x4018 _ (names .code) i;
           length = read 0x401A _ (names .length) i;
         };
-        window = read-bit 2 0x4002 _ (names .primary) i;
+        controls = record {
+          pin = read 0x4000 _ (names .pin) i;
+          primary = read 0x4002 _ (names .primary) i;
+          secondary = read 0x401E _ (names .secondary) i;
+          exit = read 0x400C _ (names .exit) i;
+          entry = read 0x4012 _ (names .entry) i;
+        };
         errorCode = read-only 0x4406 _ (names .errorCode) refl other i;
         instructionLength = read-only 0x440C _ (names .instructionLength) refl other i;
         cr0 = read 0x6800 _ (names .cr0) i;
@@ -737,7 +752,13 @@ module _ (t : Tally Event) (s : Session) (block : List ℕ) (h : Sound s) where
           code = a .fields VmcsControl32.VMENTRY_EXCEPTION_ERR_CODE (lit< tt) refl i;
           length = a .fields VmcsControl32.VMENTRY_INSTRUCTION_LEN (lit< tt) refl i;
         };
-        window = bit 2 (a .fields VmcsControl32.PRIMARY_PROCBASED_EXEC_CONTROLS (lit< tt) refl i);
+        controls = record {
+          pin = a .fields VmcsControl32.PINBASED_EXEC_CONTROLS (lit< tt) refl i;
+          primary = a .fields VmcsControl32.PRIMARY_PROCBASED_EXEC_CONTROLS (lit< tt) refl i;
+          secondary = a .fields VmcsControl32.SECONDARY_PROCBASED_EXEC_CONTROLS (lit< tt) refl i;
+          exit = a .fields VmcsControl32.VMEXIT_CONTROLS (lit< tt) refl i;
+          entry = a .fields VmcsControl32.VMENTRY_CONTROLS (lit< tt) refl i;
+        };
         errorCode = a .fields VmcsReadOnly32.VMEXIT_INTERRUPTION_ERR_CODE (lit< tt) refl i;
         instructionLength = a .fields VmcsReadOnly32.VMEXIT_INSTRUCTION_LEN (lit< tt) refl i;
         cr0 = a .fields VmcsGuestNW.CR0 (lit< tt) refl i;
@@ -771,7 +792,13 @@ module _ (t : Tally Event) (s : Session) (block : List ℕ) (h : Sound s) where
           code = a .fields VmcsControl32.VMENTRY_EXCEPTION_ERR_CODE (lit< tt) refl i;
           length = a .fields VmcsControl32.VMENTRY_INSTRUCTION_LEN (lit< tt) refl i;
         };
-        window = (ap (bit 2) (g VmcsControl32.PRIMARY_PROCBASED_EXEC_CONTROLS) ∙ exit-window (s .vmcs) (s .capabilities) r z) i;
+        controls = record {
+          pin = a .fields VmcsControl32.PINBASED_EXEC_CONTROLS (lit< tt) refl i;
+          primary = (g VmcsControl32.PRIMARY_PROCBASED_EXEC_CONTROLS ∙ exit-primary (s .vmcs) (s .capabilities) r z) i;
+          secondary = a .fields VmcsControl32.SECONDARY_PROCBASED_EXEC_CONTROLS (lit< tt) refl i;
+          exit = a .fields VmcsControl32.VMEXIT_CONTROLS (lit< tt) refl i;
+          entry = (g VmcsControl32.VMENTRY_CONTROLS ∙ exit-entry (s .vmcs) (s .capabilities) r z (valueOf (s .vmcs) VmcsControl32.VMENTRY_CONTROLS) p (passes s r e f .entry)) i;
+        };
         errorCode = a .code i;
         instructionLength = a .length i;
         cr0 = (g VmcsGuestNW.CR0 ∙ exit-cr0 (s .vmcs) (s .capabilities) r z p) i;

@@ -123,7 +123,13 @@ wordsOf s =
         code = valueOf (s .vmcs) VmcsControl32.VMENTRY_EXCEPTION_ERR_CODE;
         length = valueOf (s .vmcs) VmcsControl32.VMENTRY_INSTRUCTION_LEN;
       };
-      window = bit 2 (valueOf (s .vmcs) VmcsControl32.PRIMARY_PROCBASED_EXEC_CONTROLS);
+      controls = record {
+        pin = valueOf (s .vmcs) VmcsControl32.PINBASED_EXEC_CONTROLS;
+        primary = valueOf (s .vmcs) VmcsControl32.PRIMARY_PROCBASED_EXEC_CONTROLS;
+        secondary = valueOf (s .vmcs) VmcsControl32.SECONDARY_PROCBASED_EXEC_CONTROLS;
+        exit = valueOf (s .vmcs) VmcsControl32.VMEXIT_CONTROLS;
+        entry = valueOf (s .vmcs) VmcsControl32.VMENTRY_CONTROLS;
+      };
       errorCode = valueOf (s .vmcs) VmcsReadOnly32.VMEXIT_INTERRUPTION_ERR_CODE;
       instructionLength = valueOf (s .vmcs) VmcsReadOnly32.VMEXIT_INSTRUCTION_LEN;
       cr0 = valueOf (s .vmcs) VmcsGuestNW.CR0;

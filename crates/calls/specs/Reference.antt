@@ -4,7 +4,7 @@
 use Prim.Native.Nat.{ℕ, _+_, _*_, _/_, _%_, _^_, _<_, _≤_}
 use mathlib.Core.Path.{_≡_}
 use mathlib.Core.Logic.{_⊎_, _≢_, inl, inr}
-use mathlib.Core.Bool.{Bool, true, false, cond, Bool-discrete, _&&_, _||_}
+use mathlib.Core.Bool.{Bool, true, false, cond, Bool-discrete}
 use mathlib.Core.List.{List, [], _∷_, _++_, List·Memᴰ}
 use mathlib.Core.Option.{Option, none, some, Option·getD}
 use native.Mathlib.Decide.{decLe, ℕ-discrete}
@@ -42,6 +42,10 @@ abbrev pub either : {P Q : Type 0} → Dec P → Dec Q → Dec (P ⊎ Q)
 either (yes p) d = yes (inl p)
 either (no p) (yes q) = yes (inr q)
 either (no p) (no q) = no (λ b. elim b [ inl x ↦ p x | inr y ↦ q y ])
+
+abbrev pub isNot : {P : Type 0} → Dec P → Dec (P → ⊥)
+isNot (yes p) = no (λ n. n p)
+isNot (no n) = yes n
 
 -- ---- the calls
 
@@ -137,6 +141,52 @@ limitsOf block =
       cr4 = record { must = msrAt Layout.CR4_FIXED0 block; may = msrAt Layout.CR4_FIXED1 block };
     }
 
+-- ---- the five control words (document 01, "Setup"; SDM 3D, A.3 to A.5)
+
+pub record Controls : Type 0 where
+  pub pin : ℕ
+  pub primary : ℕ
+  pub secondary : ℕ
+  pub exit : ℕ
+  pub entry : ℕ
+
+-- allowed-0, what is set, and, of the bits that may be 0 or 1 and are neither set nor cleared, those of an old word
+abbrev pub controlValue : Bounds → (old set clear : ℕ) → ℕ
+controlValue b old set clear = bitOr (bitOr (b .must) (bitAnd (bitAnd (bitAnd (bitNot 32 (b .must)) (b .may)) (bitNot 32 (bitOr set clear))) old)) set
+
+-- what setup sets. Pin: external-interrupt exiting (bit 0), NMI exiting (3). Primary: use I/O bitmaps (25), use MSR bitmaps (28), secondary controls (31). Secondary:
+-- EPT (1), unrestricted guest (7), and RDTSCP (3), INVPCID (12) and XSAVES (20) where CPUID offers them. Exit: host address-space size (9), acknowledge
+-- interrupt (15), save and load PAT (18, 19) and EFER (20, 21). Entry: load PAT (14) and EFER (15)
+abbrev pub pinSet : ℕ
+pinSet = 0x9
+
+abbrev pub primarySet : ℕ
+primarySet = 0x92000000
+
+abbrev pub secondarySet : Features → ℕ
+secondarySet f = 0x82 + 0x8 * flag (f .rdtscp) + 0x1000 * flag (f .invpcid) + 0x100000 * flag (f .xsaves)
+
+abbrev pub exitSet : ℕ
+exitSet = 0x3C8200
+
+abbrev pub entrySet : ℕ
+entrySet = 0xC000
+
+-- what it clears: exits at loads and stores of CR3 (15, 16) and of CR8 (19, 20)
+abbrev pub primaryClear : ℕ
+primaryClear = 0x198000
+
+-- the words that setup writes; the old ones are the low halves of the IA32_VMX_.._CTLS without TRUE, and of IA32_VMX_PROCBASED_CTLS2
+abbrev pub controlsOf : List ℕ → Controls
+controlsOf block =
+    record {
+      pin = controlValue (limitsOf block .pin) (low32 (msrAt Layout.PINBASED_CTLS block)) pinSet 0;
+      primary = controlValue (limitsOf block .primary) (low32 (msrAt Layout.PROCBASED_CTLS block)) primarySet primaryClear;
+      secondary = controlValue (limitsOf block .secondary) (low32 (msrAt Layout.PROCBASED_CTLS2 block)) (secondarySet (featuresOf block)) 0;
+      exit = controlValue (limitsOf block .exit) (low32 (msrAt Layout.EXIT_CTLS block)) exitSet 0;
+      entry = controlValue (limitsOf block .entry) (low32 (msrAt Layout.ENTRY_CTLS block)) entrySet 0;
+    }
+
 -- ---- the guest's CR0 and CR4 (SDM 3C, 25.6.6; 3D, A.7 and A.8)
 
 -- the value that is asked for, without the bits that may not be 1 and with those that must be, which prevail; and the guest/host mask, which owns just these bits
@@ -203,8 +253,7 @@ pub record Words : Type 0 where
   pub interruptFlag : Bool
   pub interruptibility : ℕ
   pub event : EventFields
-  -- interrupt-window exiting, which is bit 2 of the primary controls
-  pub window : Bool
+  pub controls : Controls
   -- the error code and the instruction length of the last exit that was no failed entry
   pub errorCode : ℕ
   pub instructionLength : ℕ
@@ -236,7 +285,7 @@ start =
         interruptFlag = false;
         interruptibility = 0;
         event = record { info = 0; code = 0; length = 0 };
-        window = false;
+        controls = record { pin = 0; primary = 0; secondary = 0; exit = 0; entry = 0 };
         errorCode = 0;
         instructionLength = 0;
         cr0 = 0;
@@ -301,6 +350,16 @@ movSource r = choose (ℕ-discrete (r .qualification / 2 ^ 8 % 2 ^ 4) 4) (r .rsp
 abbrev pub movToCr : (n : ℕ) (r : Report) → Dec ((basicReason r ≡ 28) × MovToCr n r)
 movToCr n r = both (ℕ-discrete (basicReason r) 28) (both (ℕ-discrete (r .qualification / 2 ^ 4 % 4) 0) (ℕ-discrete (r .qualification % 2 ^ 4) n))
 
+-- entry bit 9, IA-32e mode guest, is to be set: a move to CR0 of a value with PG, unless LME and LMA are both set
+abbrev pub SetsIa32e : Report → Type 0
+SetsIa32e r =
+    ((basicReason r ≡ 28) × MovToCr 0 r) × ((bit 31 (movSource r) ≡ true) × ((bit 8 (r .efer) ≡ true) × (bit 10 (r .efer) ≡ true) → ⊥))
+
+abbrev pub setsIa32e : (r : Report) → Dec (SetsIa32e r)
+setsIa32e r =
+    both (movToCr 0 r)
+    (both (Bool-discrete (bit 31 (movSource r)) true) (isNot (both (Bool-discrete (bit 8 (r .efer)) true) (Bool-discrete (bit 10 (r .efer)) true))))
+
 -- ---- the words that an accepted call leaves
 
 abbrev pub inPhase : Words → ℕ → Words
@@ -312,7 +371,7 @@ inPhase w phase =
       interruptFlag = w .interruptFlag;
       interruptibility = w .interruptibility;
       event = w .event;
-      window = w .window;
+      controls = w .controls;
       errorCode = w .errorCode;
       instructionLength = w .instructionLength;
       cr0 = w .cr0;
@@ -322,8 +381,7 @@ inPhase w phase =
       limits = w .limits;
     }
 
--- setup: IF is clear and nothing is blocked (RFLAGS is 2, interruptibility 0). CR0 is asked to be NW, CD and ET (0x60000010), CR4 0. A primary bit that
--- may be 0 or 1, and that setup does not choose, is as in the low half of IA32_VMX_PROCBASED_CTLS
+-- setup: IF is clear and nothing is blocked (RFLAGS is 2, interruptibility 0). CR0 is asked to be NW, CD and ET (0x60000010), CR4 0
 abbrev pub atSetup : Words → List ℕ → Words
 atSetup w block =
     record {
@@ -333,7 +391,7 @@ atSetup w block =
       interruptFlag = false;
       interruptibility = 0;
       event = w .event;
-      window = bit 2 (limitsOf block .primary .must) || (bit 2 (limitsOf block .primary .may) && bit 2 (low32 (msrAt Layout.PROCBASED_CTLS block)));
+      controls = controlsOf block;
       errorCode = w .errorCode;
       instructionLength = w .instructionLength;
       cr0 = crValue (cr0Bounds (limitsOf block)) 0x60000010;
@@ -349,10 +407,11 @@ eventBy Held pending w = w .event
 eventBy Written [] w = w .event
 eventBy Written (e ∷ pending) w = eventFields e (w .errorCode) (w .instructionLength) (w .event)
 
-abbrev pub windowBy : Injection → Bool → Bool
-windowBy Empty window = window
-windowBy Held window = true
-windowBy Written window = window
+-- a held event sets interrupt-window exiting, primary bit 2
+abbrev pub controlsBy : Injection → Controls → Controls
+controlsBy Empty c = c
+controlsBy Held c = record { pin = c .pin; primary = bitOr (c .primary) 0x4; secondary = c .secondary; exit = c .exit; entry = c .entry }
+controlsBy Written c = c
 
 -- an entry: the first one launches and stores its host stack number. The front goes into the fields where the entry answers Written, and sets interrupt-window
 -- exiting where it is held
@@ -365,7 +424,7 @@ atEntry w stack answer pending =
       interruptFlag = w .interruptFlag;
       interruptibility = w .interruptibility;
       event = eventBy answer pending w;
-      window = windowBy answer (w .window);
+      controls = controlsBy answer (w .controls);
       errorCode = w .errorCode;
       instructionLength = w .instructionLength;
       cr0 = w .cr0;
@@ -376,7 +435,7 @@ atEntry w stack answer pending =
     }
 
 -- an exit stores the report's values, and clears bit 31 of the entry interruption field. Reason 7 clears interrupt-window exiting. A move to CR0 or CR4 is
--- carried out
+-- carried out, and one that turns paging on sets entry bit 9 where it is to be
 abbrev pub atExit : Words → Report → Words
 atExit w r =
     record {
@@ -386,7 +445,13 @@ atExit w r =
       interruptFlag = bit 9 (r .rflags);
       interruptibility = r .interruptibility;
       event = record { info = bitAnd (w .event .info) 0x7FFFFFFF; code = w .event .code; length = w .event .length };
-      window = choose (ℕ-discrete (basicReason r) 7) false (w .window);
+      controls = record {
+        pin = w .controls .pin;
+        primary = choose (ℕ-discrete (basicReason r) 7) (bitAnd (w .controls .primary) 0xFFFFFFFB) (w .controls .primary);
+        secondary = w .controls .secondary;
+        exit = w .controls .exit;
+        entry = choose (setsIa32e r) (controlValue (w .limits .entry) (w .controls .entry) 0x200 0) (w .controls .entry);
+      };
       errorCode = r .code;
       instructionLength = r .length;
       cr0 = choose (movToCr 0 r) (crValue (cr0Bounds (w .limits)) (movSource r)) (r .cr0);
@@ -410,7 +475,13 @@ atFieldWrite w encoding value =
         code = choose (ℕ-discrete encoding 0x4018) value (w .event .code);
         length = choose (ℕ-discrete encoding 0x401A) value (w .event .length);
       };
-      window = choose (ℕ-discrete encoding 0x4002) (bit 2 value) (w .window);
+      controls = record {
+        pin = choose (ℕ-discrete encoding 0x4000) value (w .controls .pin);
+        primary = choose (ℕ-discrete encoding 0x4002) value (w .controls .primary);
+        secondary = choose (ℕ-discrete encoding 0x401E) value (w .controls .secondary);
+        exit = choose (ℕ-discrete encoding 0x400C) value (w .controls .exit);
+        entry = choose (ℕ-discrete encoding 0x4012) value (w .controls .entry);
+      };
       errorCode = w .errorCode;
       instructionLength = w .instructionLength;
       cr0 = choose (ℕ-discrete encoding 0x6800) value (w .cr0);
@@ -485,11 +556,11 @@ wordRules b set clear = by 8 (Within set (b .may) → ⊥) ∷ by 9 (Apart (b .m
 abbrev pub setupRules : Limits → Features → List Rule
 setupRules l f =
     by 6 (Consistent l → ⊥)
-    ∷ wordRules (l .pin) 0x9 0
-    ++ wordRules (l .primary) 0x92000000 0x198000
-    ++ wordRules (l .secondary) (0x82 + 0x8 * flag (f .rdtscp) + 0x1000 * flag (f .invpcid) + 0x100000 * flag (f .xsaves)) 0
-    ++ wordRules (l .exit) 0x3C8200 0
-    ++ wordRules (l .entry) 0xC000 0
+    ∷ wordRules (l .pin) pinSet 0
+    ++ wordRules (l .primary) primarySet primaryClear
+    ++ wordRules (l .secondary) (secondarySet f) 0
+    ++ wordRules (l .exit) exitSet 0
+    ++ wordRules (l .entry) entrySet 0
 
 -- ---- the numbers of a report
 
@@ -510,11 +581,6 @@ abbrev pub UnknownReason : Report → Type 0
 UnknownReason r =
     (64 < basicReason r) ⊎ (basicReason r ≡ 35) ⊎ (basicReason r ≡ 38) ⊎ (basicReason r ≡ 42)
     ⊎ ((bit 31 (r .reason) ≡ true) × (basicReason r ≢ 33) × (basicReason r ≢ 34) × (basicReason r ≢ 41))
-
--- entry bit 9 is to be set: a move to CR0 of a value with PG, unless LME and LMA are both set
-abbrev pub SetsIa32e : Report → Type 0
-SetsIa32e r =
-    (basicReason r ≡ 28) × MovToCr 0 r × (bit 31 (movSource r) ≡ true) × ((bit 8 (r .efer) ≡ true) × (bit 10 (r .efer) ≡ true) → ⊥)
 
 -- those of an exit that is not a failed entry. 19: ECX is 0, by the rule before. 8: allowed-1 of the entry controls lacks bit 9, IA-32e mode guest
 abbrev pub exitRules : Words → Report → List Rule

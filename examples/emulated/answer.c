@@ -1,0 +1,221 @@
+/* What the host does at each answer. Its device reads as 0xA5B6C75A, its local APIC as 0x123456789A, its MSRs as below. */
+#include "host.h"
+#include "instructions.h"
+
+#define DEVICE_READS 0xA5B6C75A
+#define APIC_READS 0x123456789A
+#define MSR_READS_LOW 0x11223344
+#define MSR_READS_HIGH 0xAABBCCDD
+#define UD2_LENGTH 2
+
+/* The vector to be queued when the hole is touched, and whether interrupts come at random. */
+static uint64_t at_hole;
+static int random;
+
+/* ---- Events ---- */
+
+static void queued_or_not(uint8_t vector, uint32_t number)
+{
+    tell("  queue %x: %d\n", (uint64_t)vector, number);
+    if (number)
+        count.refused++;
+    else
+        queued[count.queued++ % MANY_ROOM] = vector;
+}
+
+void queue(uint8_t vector, uint8_t coded, uint32_t code)
+{
+    queued_or_not(vector, vcpu_queue_event(record, sizeof record, vector, coded, code));
+}
+
+void inject(uint64_t vector)
+{
+    queued_or_not((uint8_t)vector, vcpu_inject_interrupt(record, sizeof record, vector));
+}
+
+/* The same numbers on every run. */
+static uint32_t draw(uint32_t below)
+{
+    static uint32_t seed = 1;
+
+    seed = seed * 1664525 + 1013904223;
+    return (seed >> 16) % below;
+}
+
+static void queue_some(void)
+{
+    unsigned n = draw(3) ? 0 : draw(6);
+
+    random = 1;
+    while (n--)
+        inject(0x20 + draw(16));
+    if (!draw(8))
+        start_timer();
+}
+
+/* ---- Hypercalls ---- */
+
+static void check_arguments(const uint64_t *answer)
+{
+    check("RDI, RSI, RDX, RCX", answer[2] << 12 | answer[3] << 8 | answer[4] << 4 | answer[5], 0x1234);
+    if (field(VmcsGuest64_IA32_EFER) & EFER_LMA) {
+        check("R8", answer[6], ARGUMENT_R8);
+        check("R9", answer[7], ARGUMENT_R9);
+    }
+}
+
+static uint64_t waiting(void)
+{
+    uint8_t phase, was_launched, n = 0;
+    uint32_t entries, held;
+
+    vcpu_get_counts(record, sizeof record, &phase, &was_launched, &n, &entries, &held);
+    return n;
+}
+
+/* Setup leaves the VMX-preemption timer off: the host turns it on by a raw write of a control word, after which demand 3 claims no permitted words. */
+static void activate_timer(void)
+{
+    set_field(VmcsControl32_PINBASED_EXEC_CONTROLS, field(VmcsControl32_PINBASED_EXEC_CONTROLS) | PIN_PREEMPTION_TIMER);
+    set_field(VmcsGuest32_VMX_PREEMPTION_TIMER_VALUE, 1000);
+}
+
+static int hypercall(const uint64_t *answer)
+{
+    switch (answer[1]) {
+    case CALL_ARGUMENTS:
+        check_arguments(answer);
+        break;
+    case CALL_QUEUE:
+        queue((uint8_t)answer[2], (uint8_t)answer[3], (uint32_t)answer[4]);
+        break;
+    case CALL_TIMER:
+        start_timer();
+        break;
+    case CALL_MODE:
+        check_mode(answer[2], answer[3]);
+        break;
+    case CALL_SOME:
+        queue_some();
+        break;
+    case CALL_WAITING:
+        set_reg(RAX, waiting());
+        break;
+    case CALL_MOVE:
+        load_vmcs();
+        break;
+    case CALL_PREEMPTION:
+        activate_timer();
+        break;
+    case CALL_AT_HOLE:
+        at_hole = answer[2];
+        break;
+    }
+    return 0;
+}
+
+/* ---- Ports, MSRs, interrupts ---- */
+
+/* RAX after an IN: bytes beside the width stay for widths 1 and 2, and are 0 for width 4. */
+static void answer_in(uint64_t width)
+{
+    uint64_t mask = (1ull << 8 * width) - 1;
+
+    set_reg(RAX, (width == 4 ? 0 : reg(RAX) & ~mask) | (DEVICE_READS & mask));
+}
+
+/* What the main guest sends to the first ports. */
+static void check_out(uint64_t port, uint64_t width, uint64_t data)
+{
+    if (port < SERIAL + 7)
+        check("data of OUT", data, 0x11223341 & ((1ull << 8 * width) - 1));
+}
+
+/* Past an instruction that the core leaves to the host; with it ends blocking by STI and MOV SS. */
+static void step(uint64_t length)
+{
+    set_field(VmcsGuestNW_RIP, field(VmcsGuestNW_RIP) + length);
+    set_field(VmcsGuest32_INTERRUPTIBILITY_STATE, field(VmcsGuest32_INTERRUPTIBILITY_STATE) & ~(uint64_t)BLOCKING_STI_MOV_SS);
+}
+
+static void answer_rdmsr(void)
+{
+    set_reg(RAX, MSR_READS_LOW);
+    set_reg(RDX, MSR_READS_HIGH);
+    step(vmread(VmcsReadOnly32_VMEXIT_INSTRUCTION_LEN));
+}
+
+/* The machine's timer, which the host takes; what it means to the guest is queued. */
+static void interrupt(uint64_t vector)
+{
+    check("vector of the timer", vector, 0x40);
+    end_of_interrupt();
+    count.ticks++;
+    inject(random ? 0x20 + draw(16) : 0x22);
+}
+
+/* ---- Exits that the core leaves to the host ---- */
+
+static int halted(uint32_t reason)
+{
+    uint64_t info = vmread(VmcsReadOnly32_VMEXIT_INTERRUPTION_INFO);
+
+    switch (reason) {
+    case EXIT_EXCEPTION:
+        if ((uint8_t)info != 6)
+            break;
+        step(UD2_LENGTH);
+        return 0;
+    case EXIT_IO: /* a string instruction; RIP is past it */
+        return 0;
+    case EXIT_EPT_VIOLATION:
+        tell("  EPT violation at %x\n", vmread(VmcsReadOnly64_GUEST_PHYSICAL_ADDR));
+        if (vmread(VmcsReadOnly64_GUEST_PHYSICAL_ADDR) / 4096 != HOLE / 4096 || !map_hole())
+            break;
+        if (at_hole)
+            inject(at_hole);
+        return 0;
+    }
+    return ending("Halt at reason %d, interruption information %x", reason, info);
+}
+
+/* 1 where the guest is to run no further. */
+int act(const uint64_t *answer, uint32_t reason)
+{
+    switch (answer[0]) {
+    case VCPU_ANSWER_HYPERCALL:
+        return hypercall(answer);
+    case VCPU_ANSWER_IO_READ:
+        answer_in(answer[2]);
+        return 0;
+    case VCPU_ANSWER_IO_WRITE:
+        check_out(answer[1], answer[2], answer[3]);
+        return 0;
+    case VCPU_ANSWER_SYSTEM_DOWN:
+        return ending("ok");
+    case VCPU_ANSWER_EXTERNAL_INTERRUPT:
+        interrupt(answer[1]);
+        return 0;
+    case VCPU_ANSWER_SYS_REG_READ:
+        answer_rdmsr();
+        return 0;
+    case VCPU_ANSWER_SYS_REG_WRITE:
+        check("value of WRMSR", answer[2], 0x1155667788);
+        step(vmread(VmcsReadOnly32_VMEXIT_INSTRUCTION_LEN));
+        return 0;
+    case VCPU_ANSWER_APIC_READ:
+        check("APIC value", vcpu_apic_value(record, sizeof record, APIC_READS), 0);
+        return 0;
+    case VCPU_ANSWER_APIC_WRITE:
+        check("value for the APIC", answer[2], 9);
+        return 0;
+    case VCPU_ANSWER_HALT:
+        return halted(reason);
+    case VCPU_ANSWER_FAIL_ENTRY:
+        return ending("entry failed, reason %d", reason & 0xFFFF);
+    default:
+        if (reason == EXIT_PREEMPTION_TIMER)
+            memory[FLAG] = 1;
+        return 0;
+    }
+}

@@ -1,0 +1,190 @@
+# Events that are hard to deliver, and exits that a host sees seldom.
+    begin   plain                       # does nothing
+    finish  DONE_PLAIN
+
+    begin   codes                       # exceptions with an error code, in protected mode: 14 with the caller's, 13 with the exit's
+    mov     $0x11, %eax
+    mov     %eax, %cr0
+    lgdtl   gdtr
+    lidtl   idtr
+    ljmpl   $8, $1f
+    .code32
+1:  mov     $0x10, %eax
+    mov     %eax, %ds
+    mov     %eax, %ss
+    mov     $0x5FF0, %esp
+    movl    $0x77, SAW(SAW_CODE_13)
+    hypercall CALL_QUEUE 14 1 2
+    hypercall CALL_QUEUE 13
+    finish  DONE_CODES
+
+    begin   code_in_real_mode           # a general-protection fault with a code, where no mode has codes
+    hypercall CALL_QUEUE 0x0D 1 0x18
+    finish  DONE_PLAIN
+
+    begin   breakpoint                  # goes in where RIP is past VMCALL, whose length the last exit had
+    hypercall CALL_QUEUE 3
+1:  nop
+    nop
+    nop
+    nop
+    movl    $1b, SAW(SAW_RETURN_TO)
+    finish  DONE_BREAKPOINT
+
+    .globl  first_breakpoint
+first_breakpoint:                       # the host has queued vector 3 before the first entry, and laid its handler
+    mov     $0x5FF0, %sp
+    movl    $first_breakpoint, SAW(SAW_RETURN_TO)
+    finish  DONE_BREAKPOINT
+
+    begin   vector_25                   # reserved vector: type 7
+    hypercall CALL_QUEUE 25
+    finish  DONE_PLAIN
+
+    begin   delivery                    # the interrupt's frame goes to a page that the EPT lacks: an exit while it is delivered
+    mov     $(HOLE + 0xFF0), %sp
+    sti
+    nop
+    hypercall CALL_QUEUE 0x20
+    nop
+    nop
+    finish  DONE_PLAIN
+
+    begin   delivery_breakpoint         # the same of a breakpoint: it returns to where it was to return
+    mov     $(HOLE + 0xFF0), %sp
+    hypercall CALL_QUEUE 3
+1:  nop
+    nop
+    nop
+    nop
+    movl    $1b, SAW(SAW_RETURN_TO)
+    finish  DONE_BREAKPOINT
+
+    begin   delivery_int                # INT n: the guest executes it again
+    mov     $(HOLE + 0xFF0), %sp
+    int     $0x20
+    finish  DONE_PLAIN
+
+    begin   delivery_int3               # INT3
+    mov     $(HOLE + 0xFF0), %sp
+    int3
+1:  nop
+    movl    $1b, SAW(SAW_RETURN_TO)
+    finish  DONE_BREAKPOINT
+
+    begin   nmi_mov_ss                  # an NMI while MOV SS blocks
+    xor     %esi, %esi
+    xor     %edx, %edx
+    mov     $CALL_QUEUE, %eax
+    mov     $2, %edi
+    mov     %dx, %ss
+    vmcall
+    finish  DONE_PLAIN
+
+    begin   sti_cpuid                   # without a host the interrupt comes right after CPUID
+    hypercall CALL_QUEUE 0x20
+    mov     $0x40000000, %eax
+    sti
+    cpuid
+    cli
+    note    0xF0
+    finish  DONE_PLAIN
+
+    begin   sti_shadow                  # an exit in STI's shadow whose instruction is yet to be done: the interrupt comes after it
+    hypercall CALL_AT_HOLE 0x20
+    vector  0x20 2f
+    sti
+    movl    $0x5AD0, HOLE               # an EPT violation; the host queues 0x20 and maps the page
+    nop
+    nop
+    cli
+    note    0xF0
+    finish  DONE_SHADOW
+2:  pushl   %eax
+    mov     HOLE, %eax
+    mov     %eax, SAW(SAW_SHADOW)
+    popl    %eax
+    note    0x20
+    iret
+
+    begin   sti_hlt                     # a written event ends HLT
+    hypercall CALL_TIMER
+    sti
+    hlt
+    cli
+    note    0xF0
+    finish  DONE_PLAIN
+
+    begin   sti_hlt_held                # so should the window of a held one; the timer ends it where it does not
+    hypercall CALL_QUEUE 0x20
+    hypercall CALL_TIMER
+    sti
+    hlt
+    cli
+    note    0xF0
+    finish  DONE_PLAIN
+
+    begin   nmi_handler                 # an interrupt while an NMI's handler has set IF
+    vector  0x02 2f
+    hypercall CALL_QUEUE 2
+    nop
+    nop
+    cli
+    finish  DONE_PLAIN
+2:  note    0x02
+    sti
+    nop
+    hypercall CALL_QUEUE 0x20
+    nop
+    note    0xF0
+    iret
+
+    begin   nmi_return                  # an interrupt after an NMI's handler: its IRET does not end blocking by NMI while NMIs exit
+    hypercall CALL_QUEUE 2
+    sti
+    nop
+    hypercall CALL_QUEUE 0x20
+    nop
+    cli
+    note    0xF0
+    finish  DONE_PLAIN
+
+    begin   move                        # the VMCS is cleared and loaded again between two entries
+    hypercall CALL_MOVE
+    hypercall CALL_HERE
+    finish  DONE_PLAIN
+
+    begin   preemption_timer            # a loop that nothing else ends
+    hypercall CALL_PREEMPTION
+    mov     $0x10000000, %ecx
+1:  cmpb    $0, FLAG                    # the host sets it at the timer's exit
+    jne     2f
+    dec     %ecx
+    jnz     1b
+2:  finish  DONE_TIMER
+
+    begin   page_fault                  # a page fault without an IDT: a triple fault, or an exit of its own
+    paging_on 0x10, PD32, PG_NO_EXIT
+    lidtl   no_idt
+    mov     $0x10, %ax
+    mov     %ax, %ds
+    mov     $0x40000000, %ebx
+    movb    $0, (%ebx)
+    finish  DONE_PLAIN
+
+    begin   xsetbv
+    mov     $1, %eax
+    xor     %ecx, %ecx
+    cpuid
+    bt      $26, %ecx
+    jnc     2f
+    mov     %cr4, %eax
+    or      $0x40000, %eax              # OSXSAVE: no exit
+    mov     %eax, %cr4
+    xor     %ecx, %ecx
+    xor     %edx, %edx
+    mov     $3, %eax
+    xsetbv
+    finish  DONE_PLAIN
+2:  note    0xEE                        # the processor has no XSAVE
+    finish  DONE_PLAIN

@@ -1,0 +1,159 @@
+/* The session: the block of setup from the processor, and where setup refuses it the bits of the capability words that are behind it. */
+#include "host.h"
+#include "instructions.h"
+
+#define PAGE __attribute__((aligned(4096)))
+#define WORDS 13
+
+PAGE uint8_t io_a[VCPU_FRAME_LENGTH], io_b[VCPU_FRAME_LENGTH], msrs[VCPU_FRAME_LENGTH];
+static uint8_t block[VCPU_SETUP_LENGTH];
+static const uint16_t word_msr[WORDS] = {0x481, 0x482, 0x483, 0x484, 0x486, 0x487, 0x488, 0x489, 0x48B, 0x48D, 0x48E, 0x48F, 0x490};
+
+/* MSR 0x48B is there where bit 63 of 0x482 is set. */
+static uint64_t word(unsigned i)
+{
+    if (word_msr[i] == IA32_VMX_PROCBASED_CTLS2 && !(rdmsr(IA32_VMX_PROCBASED_CTLS) >> 63))
+        return 0;
+    return rdmsr(word_msr[i]);
+}
+
+static void put_words(void)
+{
+    unsigned i;
+
+    for (i = 0; i < WORDS; i++) {
+        put(block, VCPU_SETUP_MSRS + 8 * i, 8, word(i));
+        say("msr %x: %x\n", (uint64_t)word_msr[i], word(i));
+    }
+    say("msr %x: %x\n", (uint64_t)IA32_VMX_BASIC, rdmsr(IA32_VMX_BASIC));
+    say("msr %x: %x\n", (uint64_t)IA32_VMX_MISC, rdmsr(IA32_VMX_MISC));
+    /* 0x48C is there where the processor offers EPT or VPID, secondary controls 1 and 5. */
+    if (word(8) >> 32 & 0x22)
+        say("msr %x: %x\n", (uint64_t)IA32_VMX_EPT_VPID_CAP, rdmsr(IA32_VMX_EPT_VPID_CAP));
+}
+
+/* The host's state, to which an exit returns. FS and GS have the selector 0. */
+static void put_host(void)
+{
+    put(block, VCPU_SETUP_HOST_PAT, 8, rdmsr(IA32_PAT));
+    put(block, VCPU_SETUP_HOST_EFER, 8, rdmsr(IA32_EFER));
+    put(block, VCPU_SETUP_HOST_CR0, 8, read_cr0());
+    put(block, VCPU_SETUP_HOST_CR3, 8, read_cr3());
+    put(block, VCPU_SETUP_HOST_CR4, 8, read_cr4());
+    put(block, VCPU_SETUP_HOST_ES, 2, HOST_DATA);
+    put(block, VCPU_SETUP_HOST_CS, 2, HOST_CS);
+    put(block, VCPU_SETUP_HOST_SS, 2, HOST_DATA);
+    put(block, VCPU_SETUP_HOST_DS, 2, HOST_DATA);
+    put(block, VCPU_SETUP_HOST_TR, 2, HOST_TR);
+    put(block, VCPU_SETUP_HOST_FS_BASE, 8, rdmsr(IA32_FS_BASE));
+    put(block, VCPU_SETUP_HOST_GS_BASE, 8, rdmsr(IA32_GS_BASE));
+    put(block, VCPU_SETUP_HOST_TR_BASE, 8, (uint64_t)tss);
+    put(block, VCPU_SETUP_HOST_GDTR_BASE, 8, (uint64_t)gdt);
+    put(block, VCPU_SETUP_HOST_IDTR_BASE, 8, (uint64_t)idt);
+    put(block, VCPU_SETUP_HOST_RIP, 8, (uint64_t)vm_exit);
+}
+
+static void put_guest(uint64_t rip)
+{
+    put(block, VCPU_SETUP_ENTRY, 8, rip);
+    put(block, VCPU_SETUP_GUEST_PAT, 8, rdmsr(IA32_PAT));
+    put(block, VCPU_SETUP_EPT_ROOT, 8, lay_memory());
+    put(block, VCPU_SETUP_IO_BITMAP_A, 8, (uint64_t)io_a);
+    put(block, VCPU_SETUP_IO_BITMAP_B, 8, (uint64_t)io_b);
+    put(block, VCPU_SETUP_MSR_BITMAPS, 8, (uint64_t)msrs);
+}
+
+/* Whether CPUID offers RDTSCP, INVPCID and XSAVES (SDM 2A, CPUID). */
+static void put_offers(void)
+{
+    uint32_t r[4], last;
+
+    cpuid(0x80000001, 0, r);
+    block[VCPU_SETUP_RDTSCP] = r[3] >> 27 & 1;
+    cpuid(0, 0, r);
+    last = r[0];
+    if (last >= 7) {
+        cpuid(7, 0, r);
+        block[VCPU_SETUP_INVPCID] = r[1] >> 10 & 1;
+    }
+    if (last >= 0xD) {
+        cpuid(0xD, 1, r);
+        block[VCPU_SETUP_XSAVES] = r[0] >> 3 & 1;
+    }
+}
+
+/* ---- Why setup refused ---- */
+
+/* The words that hold the five pairs, in the order in which setup judges them: pin, primary, secondary, exit, entry. */
+static const unsigned pair_word[5] = {9, 10, 8, 11, 12};
+
+/* What setup says of a new session and this block. */
+static uint32_t trial(void)
+{
+    static uint8_t new_record[VCPU_RECORD_LENGTH], a[VCPU_FRAME_LENGTH], b[VCPU_FRAME_LENGTH], m[VCPU_FRAME_LENGTH];
+
+    vcpu_new(new_record, sizeof new_record, a, sizeof a, b, sizeof b, m, sizeof m);
+    return vcpu_setup(new_record, sizeof new_record, block, sizeof block, a, sizeof a, b, sizeof b, m, sizeof m);
+}
+
+/* The core is asked: with every bit of the five words free but this one, which is as the processor has it, does setup refuse? */
+static int decides(unsigned which, unsigned bit)
+{
+    unsigned i;
+
+    for (i = 0; i < 5; i++)
+        put(block, VCPU_SETUP_MSRS + 8 * pair_word[i], 8, 0xFFFFFFFF00000000);
+    put(block, VCPU_SETUP_MSRS + 8 * which, 8, (0xFFFFFFFF00000000 & ~(1ull << (bit + 32))) | (word(which) & (1ull << (bit + 32) | 1ull << bit)));
+    return trial() != 0;
+}
+
+static void list_causes(void)
+{
+    unsigned i, bit;
+
+    for (i = 0; i < 5; i++)
+        for (bit = 0; bit < 32; bit++)
+            if (decides(pair_word[i], bit))
+                say("cause: %x %d\n", (uint64_t)word_msr[pair_word[i]], bit);
+}
+
+/* ---- The session ---- */
+
+/* The ports of a device that this host emulates (those of the second serial port, 0x2F8 to 0x2FF), and reads of IA32_EFER. */
+static void add_intercepts(void)
+{
+    check("an edit of ports", vcpu_set_io_intercept_of_range(io_a, sizeof io_a, io_b, sizeof io_b, SERIAL, 8, 1), 0);
+    check("an edit of MSRs", vcpu_set_read_intercept(msrs, sizeof msrs, IA32_EFER, 1), 0);
+}
+
+/* Makes the session and carries it to the VMCS. Where setup refuses, the run ends here. */
+void make_session(uint64_t guest)
+{
+    uint32_t number;
+
+    if (!(rdmsr(IA32_VMX_BASIC) >> 55 & 1)) {
+        ending("no TRUE capability words");
+        stop();
+    }
+    put_words();
+    put_host();
+    put_guest(guest);
+    put_offers();
+    vcpu_new(record, sizeof record, io_a, sizeof io_a, io_b, sizeof io_b, msrs, sizeof msrs);
+    number = vcpu_setup(record, sizeof record, block, sizeof block, io_a, sizeof io_a, io_b, sizeof io_b, msrs, sizeof msrs);
+    say("setup: %d\n", number);
+    if (number) {
+        list_causes();
+        ending("setup refused %d", number);
+        stop();
+    }
+    add_intercepts();
+    find_fields();
+    carry_setup();
+    carry_others();
+    /* Accessed and dirty flags of the EPT, where the processor lacks them. */
+    if (!(rdmsr(IA32_VMX_EPT_VPID_CAP) >> 21 & 1) && !deviates(KEEP_EPT_FLAGS)) {
+        say("EPT pointer: bit 6 cleared\n");
+        set_field(VmcsControl64_EPTP, field(VmcsControl64_EPTP) & ~EPTP_FLAGS);
+    }
+}

@@ -2,7 +2,8 @@
  * A small host, with the processor played by arrays. It does what a hypervisor does around the core: it makes a session, sets it up from the processor's
  * capability words (and shows words that are refused), edits intercepts and queues events; for each exit it enters the guest, carries fields and
  * registers to the processor and back, reports the exit, and does what the core answers. After each call it writes to the processor the fields that the
- * header names and no others; at each entry all 154 are compared, and those in which processor and record differ are counted.
+ * header names and no others; at each entry all 154 are compared, and those in which processor and record differ are counted. Arrays refuse no entry:
+ * examples/emulated is a host on processors that do, with all that the header's section "What the host does" says.
  */
 #include "x86_vcpu.h"
 
@@ -58,6 +59,9 @@ static void run_guest(const struct exit *e)
         return;
     guest[RAX] = e->rax;
     guest[RCX] = e->rcx;
+    /* on its way to long mode the guest has set EFER.LME, which is not trapped */
+    if (e->reason == 28)
+        vmwrite(VmcsGuest64_IA32_EFER, 0x100);
     vmwrite(VmcsGuestNW_RFLAGS, 0x202);
     vmwrite(VmcsReadOnly32_VMEXIT_INSTRUCTION_LEN, e->length);
     vmwrite(VmcsReadOnly32_VMEXIT_INTERRUPTION_INFO, e->reason == 1 ? 0x80000031 : 0);
@@ -230,8 +234,11 @@ static void carry_report(void)
         carry(cr0 ? VmcsGuestNW_CR0 : VmcsGuestNW_CR4);
         carry(cr0 ? VmcsControlNW_CR0_READ_SHADOW : VmcsControlNW_CR4_READ_SHADOW);
         carry(cr0 ? VmcsControlNW_CR0_GUEST_HOST_MASK : VmcsControlNW_CR4_GUEST_HOST_MASK);
-        carry(VmcsGuest64_IA32_EFER);
-        carry(VmcsControl32_VMENTRY_CONTROLS);
+        if (cr0) {
+            carry(VmcsGuest64_IA32_EFER);
+            /* bit 9, IA-32e mode guest, is EFER.LMA */
+            vmwrite(VmcsControl32_VMENTRY_CONTROLS, (field(VmcsControl32_VMENTRY_CONTROLS) & ~(uint64_t)0x200) | (field(VmcsGuest64_IA32_EFER) >> 10 & 1) << 9);
+        }
         break;
     case 52:
         carry(VmcsGuest32_VMX_PREEMPTION_TIMER_VALUE);

@@ -128,16 +128,60 @@ extern "C" {
 #define VCPU_WAITING 3
 #define VCPU_ENDED 4
 
+/* ---- What the host does ----
+ * The record holds the fields of the VMCS and the guest's registers as the core knows them; the host carries them to the processor and back. To write a field
+ * is VMWRITE, with the value that vcpu_read_field gives unless another is said. examples/emulated is a host that does all of this on emulated processors: names in
+ * brackets are its probes, of which those that leave something out show what happens then.
+ *
+ * Before the first entry:
+ * - The host's CR0 has CD and NW clear. An entry does not change them and an exit stores them as the guest's: VCPU_REFUSED_OWNED_BITS [host-cd].
+ * - After vcpu_setup it writes the fields of VCPU_SETUP_FIELDS. It starts from a VMCS region of zeros, or writes 0x4006, 0x4008 and 0x4016 too, of which an entry
+ *   or the guest meets whatever the region held [dirty-region, dirty-region-event, dirty-page-fault, dirty-page-fault-words].
+ * - Where IA32_VMX_EPT_VPID_CAP (0x48C) has bit 21 clear, as on processors before Haswell, it clears bit 6 of the EPT pointer (0x201A) by vcpu_write_field and
+ *   writes the field; else the first entry is VMfail 7 [main, ept-flags-kept].
+ * - It writes these fields once. Alive in the record after that are the fields that a report brings and those that a call writes; the guest's others (selectors,
+ *   limits, GDTR, IDTR, rights and bases but for CS and the rights of SS, ..) stay there as setup wrote them, while the guest changes its own [fields-again].
+ *
+ * At an entry:
+ * - After vcpu_entry it writes, where *resumed is 0, host RSP (0x6C14); for a held event the primary controls (0x4002); for a written one 0x4016, 0x4018, 0x401A.
+ * - Of a written event a processor refuses (VMfail 7) what the core leaves in it; in the VMCS alone the host writes, while CR0.PE is clear, 0x4016 without bit 11:
+ *   a guest in real mode takes no error code [code-in-real-mode, code-in-real-mode-kept]. Vectors 21 to 31 have type 7: it queues none [vector-25].
+ * - Vectors 1, 3 and 4 return to RIP plus the length, which is the last exit's, while RIP is past that exit's instruction already (before the first exit it is 0).
+ *   In the VMCS alone the host writes 0x401A as 0 or, where IA32_VMX_MISC (0x485) has bit 30 clear, as 1 and RIP (0x681E) less by 1
+ *   [breakpoint, breakpoint-exit-length, first-breakpoint, first-breakpoint-exit-length].
+ * - It loads all registers, and CR2 and the x87 and SSE state, which are in neither record nor VMCS [main].
+ * - It enters by VMLAUNCH where the VMCS is clear and by VMRESUME where it was launched. After VMCLEAR, or on another VMCS, that is VMLAUNCH whatever *resumed says
+ *   [vmcs-moved, vmcs-moved-resumed].
+ * - VMfail has no report: the session is running, and a written event is out of the queue. The host puts the VMCS right and repeats the instruction without
+ *   another vcpu_entry [ept-flags-kept, vmcs-moved-resumed, code-in-real-mode-kept], or gives the session up.
+ *
+ * At an exit:
+ * - The report has what the processor has, but of interruptibility (0x4824) bits 0 and 1 alone. An event is held while any bit is set, and blocking by NMI (bit 3)
+ *   does not close the interrupt window: exits of reason 7 would follow one another without end, in an NMI's handler and after it, since IRET does not clear
+ *   the bit while NMIs exit [nmi-handler, nmi-handler-reported, nmi-return, nmi-return-reported].
+ * - Blocking by STI and MOV SS (bits 0 and 1) ends with one instruction. Where core or host carry that out (reasons 10, 18, 28, 30, 31 and 32) the host clears both
+ *   bits in report and VMCS [sti-cpuid, sti-cpuid-kept, nmi-mov-ss, nmi-mov-ss-kept], at other exits it leaves them [sti-shadow].
+ * - After vcpu_exit_report it writes RIP (0x681E); at reason 7 the primary controls; at reason 52 the preemption timer (0x482E); at a move to CR4 0x6804, 0x6006
+ *   and 0x6002; at a move to CR0 0x6800, 0x6004, 0x6000, EFER (0x2806) and the entry controls (0x4012), these two as follows.
+ * - At a move to CR0 the core sets LMA with PG, whatever LME is, and never clears it; to a processor LMA is LME and PG. Where the record's EFER says otherwise the
+ *   host writes it by vcpu_write_field [paging, paging-kept, leave-long-mode, leave-long-mode-kept].
+ * - Bit 9 of the entry controls is LMA. The processor changes it in the VMCS where the guest turns long mode on or off without an exit, and no report tells the
+ *   core. So the host writes 0x4012 at moves to CR0 alone, there always, with the record's word but for bit 9, which it takes from EFER: a stale word, or none,
+ *   makes the entry fail [long-mode, long-mode-no-exit, long-mode-no-exit-stale, long-mode-twice, long-mode-twice-changed, leave-no-exit, leave-no-exit-stale].
+ * - Where a move leaves PAE paging on without long mode, and changes CD, NW or PG of CR0, or PSE, PAE, PGE or SMEP of CR4, the host writes 0x280A to 0x2810 with
+ *   the four entries that CR3 points to in the guest's memory [pae, pae-kept, pae-no-pdptes].
+ * - IDT-vectoring information (0x4408) with bit 31 names an event whose delivery the exit ended. The host queues it again, with the code of 0x440A where bit 11 is
+ *   set; it then stands last. Not so INT n (type 4), which the guest executes again; and with INT1, INT3 and INTO (types 5 and 6) RIP goes on by the exit's
+ *   instruction length [delivery, delivery-lost, delivery-breakpoint, delivery-int, delivery-int3].
+ * - vcpu_get_cpu_mode and vcpu_gla2gva tell the guest's mode if they are given the guest's EFER (0x2806) in place of the host's [main, host-efer].
+ *
+ * Raw writes (vcpu_write_field) of the EPT pointer, EFER, RIP and interruptibility, as here, leave all that is proved of the five control words, CR0, CR4 and their
+ * masks (docs/DEMAND-3.md). A raw write of one of those nine ends it: from then on the host answers for what the processor permits. So does a host that turns
+ * the preemption timer on, by 0x4000 [preemption-timer]; what is put into the VMCS alone the host answers for as well.
+ */
+
 /* ---- Sessions ----
  * A record is tested before anything else: every function that takes one but vcpu_new answers VCPU_REFUSED_BYTES first.
- *
- * The record holds the values of the VMCS fields and the guest's registers; the host carries them to the processor. Before an entry it loads all
- * registers; an exit report brings them back. Fields it writes (VMWRITE, with the value that vcpu_read_field gives) as follows.
- * After vcpu_setup: those of VCPU_SETUP_FIELDS.
- * After vcpu_entry: at the first entry host RSP (0x6C14); for a held event the primary controls (0x4002); for a written one 0x4016, 0x4018 and 0x401A.
- * After vcpu_exit_report: RIP (0x681E); at reason 7 the primary controls; at reason 52 the preemption timer (0x482E); at reason 28 CR0 or CR4, its read
- * shadow and its mask (0x6800, 0x6004, 0x6000 or 0x6804, 0x6006, 0x6002), EFER (0x2806) and the entry controls (0x4012).
- * After vcpu_write_field: the field itself.
  */
 
 /*
@@ -385,7 +429,7 @@ uint32_t vcpu_entry(uint8_t *record, size_t length, uint64_t host_stack, uint8_t
 /* RDMSR of an APIC register: MSR. The session waits for vcpu_apic_value. WRMSR of one: MSR, EDX:EAX. */
 #define VCPU_ANSWER_APIC_READ 8
 #define VCPU_ANSWER_APIC_WRITE 9
-/* An exit that the core does not deal with, a string or repeated I/O instruction too. */
+/* An exit that the core does not deal with. A string or repeated I/O instruction is one too: RIP is past it, and nothing of it is done. */
 #define VCPU_ANSWER_HALT 10
 /* The entry failed (its value is 0): why is in the fields of exit reason and qualification. The session is ended. */
 #define VCPU_ANSWER_FAIL_ENTRY 11
@@ -426,7 +470,8 @@ uint32_t vcpu_get_counts(const uint8_t *record, size_t length, uint8_t *phase, u
                          uint32_t *held);
 
 /*
- * The mode of the guest's CPU, told by the host's IA32_EFER (LMA), the guest's CS access rights and CR0.
+ * The mode of the guest's CPU, told by LMA of the IA32_EFER given, the guest's CS access rights and CR0. With the host's, as in the Rust, it is
+ * compatibility mode for a guest in real or protected mode on a host in long mode; with the guest's (0x2806) it is the guest's mode.
  * Refusals: VCPU_REFUSED_BYTES.
  */
 #define VCPU_MODE_REAL 0

@@ -1,4 +1,4 @@
-/* The session: the block of setup from the processor, and where setup refuses it the bits of the capability words that are behind it. */
+/* The session: the block of setup from the processor, and which bits of the capability words decide what setup says. */
 #include "host.h"
 #include "instructions.h"
 
@@ -82,39 +82,49 @@ static void put_offers(void)
     }
 }
 
-/* ---- Why setup refused ---- */
+/* ---- Which bits decide ---- */
 
 /* The words that hold the five pairs, in the order in which setup judges them: pin, primary, secondary, exit, entry. */
 static const unsigned pair_word[5] = {9, 10, 8, 11, 12};
+/* A word all of whose bits are free: allowed-1 is the high half, allowed-0 the low one. */
+#define FREE 0xFFFFFFFF00000000
 
-/* What setup says of a new session and this block. */
-static uint32_t trial(void)
+/* What setup says of a new session where all five words are free, but for this one. */
+static uint32_t trial(unsigned which, uint64_t value)
 {
     static uint8_t new_record[VCPU_RECORD_LENGTH], a[VCPU_FRAME_LENGTH], b[VCPU_FRAME_LENGTH], m[VCPU_FRAME_LENGTH];
+    unsigned i;
 
-    vcpu_new(new_record, sizeof new_record, a, sizeof a, b, sizeof b, m, sizeof m);
+    for (i = 0; i < 5; i++)
+        put(block, VCPU_SETUP_MSRS + 8 * pair_word[i], 8, pair_word[i] == which ? value : FREE);
+    memset(new_record, 0, sizeof new_record); /* as vcpu_new leaves it */
     return vcpu_setup(new_record, sizeof new_record, block, sizeof block, a, sizeof a, b, sizeof b, m, sizeof m);
 }
 
-/* The core is asked: with every bit of the five words free but this one, which is as the processor has it, does setup refuse? */
-static int decides(unsigned which, unsigned bit)
+/* Asks the core bit by bit: is it to be set, or clear, and is it as the processor has it a reason to refuse? */
+static void list_bits(unsigned which)
+{
+    uint64_t msr = word_msr[which];
+    unsigned bit;
+
+    for (bit = 0; bit < 32; bit++) {
+        uint64_t allowed0 = 1ull << bit, allowed1 = allowed0 << 32;
+
+        if (trial(which, FREE & ~allowed1) == VCPU_REFUSED_SET)
+            say("to set: %x %d\n", msr, bit);
+        if (trial(which, FREE | allowed0) == VCPU_REFUSED_CLEAR)
+            say("to clear: %x %d\n", msr, bit);
+        if (trial(which, (FREE & ~allowed1) | (word(which) & (allowed0 | allowed1))))
+            say("cause: %x %d\n", msr, bit);
+    }
+}
+
+static void list_words(void)
 {
     unsigned i;
 
     for (i = 0; i < 5; i++)
-        put(block, VCPU_SETUP_MSRS + 8 * pair_word[i], 8, 0xFFFFFFFF00000000);
-    put(block, VCPU_SETUP_MSRS + 8 * which, 8, (0xFFFFFFFF00000000 & ~(1ull << (bit + 32))) | (word(which) & (1ull << (bit + 32) | 1ull << bit)));
-    return trial() != 0;
-}
-
-static void list_causes(void)
-{
-    unsigned i, bit;
-
-    for (i = 0; i < 5; i++)
-        for (bit = 0; bit < 32; bit++)
-            if (decides(pair_word[i], bit))
-                say("cause: %x %d\n", (uint64_t)word_msr[pair_word[i]], bit);
+        list_bits(pair_word[i]);
 }
 
 /* ---- The session ---- */
@@ -142,8 +152,8 @@ void make_session(uint64_t guest)
     vcpu_new(record, sizeof record, io_a, sizeof io_a, io_b, sizeof io_b, msrs, sizeof msrs);
     number = vcpu_setup(record, sizeof record, block, sizeof block, io_a, sizeof io_a, io_b, sizeof io_b, msrs, sizeof msrs);
     say("setup: %d\n", number);
+    list_words();
     if (number) {
-        list_causes();
         ending("setup refused %d", number);
         stop();
     }

@@ -2,8 +2,8 @@
 //!
 //! A [`Session`] holds the record's bytes and [`Frames`] the three intercept frames. A refused call answers its [`Refusal`] and changes nothing.
 //!
-//! The host carries fields and registers between the session and the processor, as `include/x86_vcpu.h` says under "Sessions": after [`Session::setup`] the
-//! fields of [`Field::SETUP`], before an entry all of [`Session::registers`].
+//! The host carries fields and registers between the session and the processor, as `include/x86_vcpu.h` says under "What the host does": after
+//! [`Session::setup`] the fields of [`Field::SETUP`], before an entry all of [`Session::registers`], and what a processor asks beside it.
 //!
 //! Every `unsafe` block below is one call of the archive. What `include/x86_vcpu.h` asks of a caller holds in each: a pointer and its length are those of one
 //! array that is borrowed for the call, a result is a local variable, and no two of them overlap.
@@ -456,7 +456,8 @@ impl Session {
         (number, Counts { phase: Phase::of(phase), launched: launched == 1, waiting, entries, held })
     }
 
-    /// The mode of the guest's CPU, told by the host's EFER (LMA), the guest's CS access rights and CR0.
+    /// The mode of the guest's CPU, told by LMA of the EFER given, the guest's CS access rights and CR0. With the host's EFER, as in the published Rust, a
+    /// guest in real or protected mode is told as in compatibility mode by a host in long mode; the guest's ([`fields::VmcsGuest64::IA32_EFER`]) gives its mode.
     #[must_use]
     pub fn cpu_mode(&self, host_efer: u64) -> VmCpuMode {
         let mut mode = 0;

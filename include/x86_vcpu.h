@@ -149,7 +149,8 @@ extern "C" {
  * - Vectors 1, 3 and 4 return to RIP plus the length, which is the last exit's, while RIP is past that exit's instruction already (before the first exit it is 0).
  *   In the VMCS alone the host writes 0x401A as 0 or, where IA32_VMX_MISC (0x485) has bit 30 clear, as 1 and RIP (0x681E) less by 1
  *   [breakpoint, breakpoint-exit-length, first-breakpoint, first-breakpoint-exit-length].
- * - It loads all registers, and CR2 and the x87 and SSE state, which are in neither record nor VMCS [main].
+ * - It loads all registers, and CR2 and the x87 and SSE state, which are in neither record nor VMCS [main]; and what else guest and host share and no probe has a
+ *   use of: DR0 to DR3 and DR6, the MSRs of SYSCALL and SWAPGS, XCR0 and the state that it adds. INVEPT after a change of EPT tables in use is the host's as well.
  * - It enters by VMLAUNCH where the VMCS is clear and by VMRESUME where it was launched. After VMCLEAR, or on another VMCS, that is VMLAUNCH whatever *resumed says
  *   [vmcs-moved, vmcs-moved-resumed].
  * - VMfail has no report: the session is running, and a written event is out of the queue. The host puts the VMCS right and repeats the instruction without

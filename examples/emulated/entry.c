@@ -97,7 +97,9 @@ static int run_guest(uint8_t resumed)
     while (way && repair(way, &resume));
     guest_cr2 = read_cr2();
     write_cr2(0); /* as a page fault of the host would */
-    launched = !way;
+    /* an entry that fails, by VMfail or by bit 31 of the reason, leaves the VMCS as it was, clear or launched */
+    if (!way && !(vmread(VmcsReadOnly32_EXIT_REASON) >> 31))
+        launched = 1;
     return way;
 }
 

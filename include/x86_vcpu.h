@@ -161,7 +161,7 @@ extern "C" {
  *   does not close the interrupt window: exits of reason 7 would follow one another without end, in an NMI's handler and after it, since IRET does not clear
  *   the bit while NMIs exit [nmi-handler, nmi-handler-reported, nmi-return, nmi-return-reported].
  * - Blocking by STI and MOV SS (bits 0 and 1) ends with one instruction. Where core or host carry that out (reasons 10, 18, 28, 30, 31 and 32) the host clears both
- *   bits in report and VMCS [sti-cpuid, sti-cpuid-kept, nmi-mov-ss, nmi-mov-ss-kept], at other exits it leaves them [sti-shadow].
+ *   bits in report and VMCS [sti-exits, sti-exits-kept, nmi-mov-ss, nmi-mov-ss-kept], at other exits it leaves them [sti-shadow].
  * - After vcpu_exit_report it writes RIP (0x681E); at reason 7 the primary controls; at reason 52 the preemption timer (0x482E); at a move to CR4 0x6804, 0x6006
  *   and 0x6002; at a move to CR0 0x6800, 0x6004, 0x6000, EFER (0x2806) and the entry controls (0x4012), these two as follows.
  * - At a move to CR0 the core sets LMA with PG, whatever LME is, and never clears it; to a processor LMA is LME and PG. Where the record's EFER says otherwise the
@@ -173,7 +173,7 @@ extern "C" {
  *   the four entries that CR3 points to in the guest's memory [pae, pae-kept, pae-no-pdptes].
  * - IDT-vectoring information (0x4408) with bit 31 names an event whose delivery the exit ended. The host queues it again, with the code of 0x440A where bit 11 is
  *   set; it then stands last. Not so INT n (type 4), which the guest executes again; and with INT1, INT3 and INTO (types 5 and 6) RIP goes on by the exit's
- *   instruction length [delivery, delivery-lost, delivery-breakpoint, delivery-int, delivery-int3].
+ *   instruction length [delivery, delivery-lost, delivery-code, delivery-breakpoint, delivery-int, delivery-int3].
  * - vcpu_get_cpu_mode and vcpu_gla2gva tell the guest's mode if they are given the guest's EFER (0x2806) in place of the host's [main, host-efer].
  *
  * Raw writes (vcpu_write_field) of the EPT pointer, EFER, RIP and interruptibility, as here, leave all that is proved of the five control words, CR0, CR4 and their

@@ -143,6 +143,14 @@ static void check_many(void)
     say("handled: %d\n", in_order);
 }
 
+static void check_pae(void)
+{
+    unsigned i;
+
+    for (i = 0; i < 4; i++)
+        check_saw("a word by each page-directory pointer", SAW_PAE + i, 0x9AE);
+}
+
 static void check_counts(void)
 {
     uint8_t phase = 9, was_launched = 9, waiting = 9;
@@ -173,6 +181,15 @@ static void check_done(void)
         break;
     case DONE_BREAKPOINT:
         check_breakpoint();
+        break;
+    case DONE_LONG_MODE:
+        check_saw("all registers over an exit", SAW_REGISTERS, 1);
+        break;
+    case DONE_PAE:
+        check_pae();
+        break;
+    case DONE_CODE:
+        check_saw("code of the page fault", SAW_CODE_14, 2);
         break;
     case DONE_CODES:
         check_saw("code of the page fault", SAW_CODE_14, 2);

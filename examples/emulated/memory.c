@@ -38,7 +38,9 @@ uint64_t lay_memory(void)
     put(memory, PDPT, 8, PD | 7);
     put(memory, PD, 8, 0x87);
     put(memory, PD32, 4, 0x87);
-    put(memory, PDPTES, 8, PD_PAE | 1);
+    put(memory, PDPTES, 8, PD_PAE | 1); /* all but the third, which the guest adds */
+    put(memory, PDPTES + 8, 8, PD_PAE | 1);
+    put(memory, PDPTES + 24, 8, PD_PAE | 1);
     put(memory, PD_PAE, 8, 0x87);
     if (deviates(QUEUE_FIRST))
         put(memory, 4 * 3, 4, START);

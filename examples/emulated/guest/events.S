@@ -18,6 +18,20 @@
     hypercall CALL_QUEUE 13
     finish  DONE_CODES
 
+    begin   delivery_code               # the same where the stack is in a page that the EPT lacks
+    mov     $0x11, %eax
+    mov     %eax, %cr0
+    lgdtl   gdtr
+    lidtl   idtr
+    ljmpl   $8, $1f
+    .code32
+1:  mov     $0x10, %eax
+    mov     %eax, %ds
+    mov     %eax, %ss
+    mov     $(HOLE + 0xFF0), %esp
+    hypercall CALL_QUEUE 14 1 2
+    finish  DONE_CODE
+
     begin   code_in_real_mode           # a general-protection fault with a code, where no mode has codes
     hypercall CALL_QUEUE 0x0D 1 0x18
     finish  DONE_PLAIN
@@ -81,13 +95,40 @@ first_breakpoint:                       # the host has queued vector 3 before th
     vmcall
     finish  DONE_PLAIN
 
-    begin   sti_cpuid                   # without a host the interrupt comes right after CPUID
+    .macro  round number, instruction:vararg
+    sti
+    \instruction
+    cli
+    note    \number
+    .endm
+    begin   sti_exits                   # instructions that exit, right after STI: without a host the interrupt comes after each
     hypercall CALL_QUEUE 0x20
     mov     $0x40000000, %eax
-    sti
-    cpuid
-    cli
-    note    0xF0
+    round   0xF0, cpuid
+    hypercall CALL_QUEUE 0x20
+    mov     $CALL_HERE, %eax
+    round   0xF1, vmcall
+    hypercall CALL_QUEUE 0x20
+    mov     $(SERIAL + 7), %dx
+    round   0xF2, out %al, %dx
+    hypercall CALL_QUEUE 0x20
+    mov     $(SERIAL + 7), %dx
+    round   0xF3, in %dx, %al
+    hypercall CALL_QUEUE 0x20
+    mov     $0xC0000080, %ecx           # the host steps over it
+    round   0xF4, rdmsr
+    hypercall CALL_QUEUE 0x20
+    mov     $0x802, %ecx                # a register of the local APIC
+    round   0xF5, rdmsr
+    hypercall CALL_QUEUE 0x20
+    mov     $0x80B, %ecx
+    mov     $9, %eax
+    xor     %edx, %edx
+    round   0xF6, wrmsr
+    hypercall CALL_QUEUE 0x20
+    mov     %cr0, %eax
+    xor     $0x20, %eax                 # NE
+    round   0xF7, mov %eax, %cr0
     finish  DONE_PLAIN
 
     begin   sti_shadow                  # an exit in STI's shadow whose instruction is yet to be done: the interrupt comes after it

@@ -52,12 +52,14 @@
 #define SAW_PE_NO_EXIT 22
 #define SAW_PE_EXIT 23
 #define SAW_VENDOR_PROTECTED 24
-#define SAW_RETURN 25   /* where the handler of vector 3 returns to */
+#define SAW_RETURN 25    /* where the handler of vector 3 returns to */
 #define SAW_RETURN_TO 26 /* where it should */
 #define SAW_CODE_14 27
 #define SAW_CODE_13 28
 #define SAW_CR2 29
-#define SAW_SHADOW 30 /* what the handler found in HOLE */
+#define SAW_SHADOW 30    /* what the handler found in HOLE */
+#define SAW_REGISTERS 31 /* 1: all of them stayed over an exit */
+#define SAW_PAE 32       /* one word by four page-directory pointers */
 
 /* The last word: which checks the host makes, in a guest that came to its end. */
 #define DONE 0x67FC
@@ -68,5 +70,8 @@
 #define DONE_CODES 0x600D0004
 #define DONE_SHADOW 0x600D0005
 #define DONE_TIMER 0x600D0006
+#define DONE_LONG_MODE 0x600D0007
+#define DONE_PAE 0x600D0008
+#define DONE_CODE 0x600D0009
 
 #endif

@@ -22,6 +22,22 @@
     mov     %eax, %cr0
     .endm
 
+    .macro  each operation
+    .set    value, 0x1112131415161718
+    .irp    register, rcx, rdx, rbx, rbp, rsi, rdi, r8, r9, r10, r11, r12, r13, r14, r15
+    \operation \register
+    .set    value, value + 0x1010101010101010
+    .endr
+    .endm
+    .macro  fill register
+    movabs  $value, %\register
+    .endm
+    .macro  compare register
+    movabs  $value, %rax
+    cmp     %rax, %\register
+    jne     2f
+    .endm
+
     begin   long_mode                   # by a move to CR0 that exits
     long_mode_on PG_EXIT
     far     0x18, 1f
@@ -31,7 +47,12 @@
     movabs  $ARGUMENT_R9, %r9
     mov     $4, %ecx
     hypercall CALL_ARGUMENTS 1 2 3
-    finish  DONE_PLAIN
+    each    fill                        # every register but RAX and RSP over an exit
+    mov     $CALL_HERE, %eax
+    vmcall
+    each    compare
+    movl    $1, SAW(SAW_REGISTERS)
+2:  finish  DONE_LONG_MODE
 
     begin   long_mode_no_exit           # without an exit, then a move to CR4 that exits
     long_mode_on PG_NO_EXIT
@@ -116,7 +137,18 @@ paged:
 1:  mov     $0x10, %eax
     mov     %eax, %ds
     hypercall CALL_MODE 1 3
-    finish  DONE_PLAIN
+    movl    $0x9AE, SAW(SAW_PAE)        # the other pointers lead to the same page
+    mov     0x40000000 + SAW(SAW_PAE), %eax
+    mov     %eax, SAW(SAW_PAE + 1)
+    mov     0xC0000000 + SAW(SAW_PAE), %eax
+    mov     %eax, SAW(SAW_PAE + 3)
+    movl    $(PD_PAE | 1), PDPTES + 16  # the third is new, and a move to CR4 that changes PGE loads it; VMXE makes it exit
+    mov     %cr4, %eax
+    xor     $0x2080, %eax
+    mov     %eax, %cr4
+    mov     0x80000000 + SAW(SAW_PAE), %eax
+    mov     %eax, SAW(SAW_PAE + 2)
+    finish  DONE_PAE
 
     begin   clts_lmsw                   # CLTS and LMSW that change no bit of the host's do not exit; then NE alone does
     clts

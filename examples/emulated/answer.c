@@ -80,7 +80,7 @@ static void activate_timer(void)
     set_field(VmcsGuest32_VMX_PREEMPTION_TIMER_VALUE, 1000);
 }
 
-static int hypercall(const uint64_t *answer)
+static void hypercall(const uint64_t *answer)
 {
     switch (answer[1]) {
     case CALL_ARGUMENTS:
@@ -111,24 +111,25 @@ static int hypercall(const uint64_t *answer)
         at_hole = answer[2];
         break;
     }
-    return 0;
 }
 
 /* ---- Ports, MSRs, interrupts ---- */
 
-/* RAX after an IN: bytes beside the width stay for widths 1 and 2, and are 0 for width 4. */
-static void answer_in(uint64_t width)
+/* RAX after an IN: bytes beside the width stay for widths 1 and 2, and are 0 for width 4. Ports but the first read as all ones. */
+static void answer_in(uint64_t port, uint64_t width)
 {
     uint64_t mask = (1ull << 8 * width) - 1;
 
-    set_reg(RAX, (width == 4 ? 0 : reg(RAX) & ~mask) | (DEVICE_READS & mask));
+    set_reg(RAX, (width == 4 ? 0 : reg(RAX) & ~mask) | ((port == SERIAL ? DEVICE_READS : ~0ull) & mask));
 }
 
-/* What the main guest sends to the first ports. */
+/* What the main guest sends: 1, 2 and 4 bytes, to the first three ports. */
 static void check_out(uint64_t port, uint64_t width, uint64_t data)
 {
-    if (port < SERIAL + 7)
-        check("data of OUT", data, 0x11223341 & ((1ull << 8 * width) - 1));
+    if (port == SERIAL + 7)
+        return;
+    check("port of OUT", port, SERIAL + width / 2);
+    check("data of OUT", data, 0x11223341 & ((1ull << 8 * width) - 1));
 }
 
 /* Past an instruction that the core leaves to the host; with it ends blocking by STI and MOV SS. */
@@ -138,11 +139,31 @@ static void step(uint64_t length)
     set_field(VmcsGuest32_INTERRUPTIBILITY_STATE, field(VmcsGuest32_INTERRUPTIBILITY_STATE) & ~(uint64_t)BLOCKING_STI_MOV_SS);
 }
 
-static void answer_rdmsr(void)
+static void answer_rdmsr(uint64_t msr)
 {
+    check("MSR of RDMSR", msr, IA32_EFER);
     set_reg(RAX, MSR_READS_LOW);
     set_reg(RDX, MSR_READS_HIGH);
     step(vmread(VmcsReadOnly32_VMEXIT_INSTRUCTION_LEN));
+}
+
+static void answer_wrmsr(uint64_t msr, uint64_t value)
+{
+    check("MSR of WRMSR", msr, 0xE1);
+    check("value of WRMSR", value, 0x1155667788);
+    step(vmread(VmcsReadOnly32_VMEXIT_INSTRUCTION_LEN));
+}
+
+static void answer_apic_read(uint64_t msr)
+{
+    check("APIC register that is read", msr, 0x802);
+    check("APIC value", vcpu_apic_value(record, sizeof record, APIC_READS), 0);
+}
+
+static void answer_apic_write(uint64_t msr, uint64_t value)
+{
+    check("APIC register that is written", msr, 0x80B);
+    check("value for the APIC", value, 9);
 }
 
 /* The machine's timer, which the host takes; what it means to the guest is queued. */
@@ -179,43 +200,53 @@ static int halted(uint32_t reason)
     return ending("Halt at reason %d, interruption information %x", reason, info);
 }
 
-/* 1 where the guest is to run no further. */
-int act(const uint64_t *answer, uint32_t reason)
+static int last(const uint64_t *answer, uint32_t reason)
 {
     switch (answer[0]) {
-    case VCPU_ANSWER_HYPERCALL:
-        return hypercall(answer);
-    case VCPU_ANSWER_IO_READ:
-        answer_in(answer[2]);
-        return 0;
-    case VCPU_ANSWER_IO_WRITE:
-        check_out(answer[1], answer[2], answer[3]);
-        return 0;
     case VCPU_ANSWER_SYSTEM_DOWN:
         return ending("ok");
-    case VCPU_ANSWER_EXTERNAL_INTERRUPT:
-        interrupt(answer[1]);
-        return 0;
-    case VCPU_ANSWER_SYS_REG_READ:
-        answer_rdmsr();
-        return 0;
-    case VCPU_ANSWER_SYS_REG_WRITE:
-        check("value of WRMSR", answer[2], 0x1155667788);
-        step(vmread(VmcsReadOnly32_VMEXIT_INSTRUCTION_LEN));
-        return 0;
-    case VCPU_ANSWER_APIC_READ:
-        check("APIC value", vcpu_apic_value(record, sizeof record, APIC_READS), 0);
-        return 0;
-    case VCPU_ANSWER_APIC_WRITE:
-        check("value for the APIC", answer[2], 9);
-        return 0;
     case VCPU_ANSWER_HALT:
         return halted(reason);
     case VCPU_ANSWER_FAIL_ENTRY:
         return ending("entry failed, reason %d", reason & 0xFFFF);
     default:
+        return ending("no such answer: %u", answer[0]);
+    }
+}
+
+/* 1 where the guest is to run no further. */
+int act(const uint64_t *answer, uint32_t reason)
+{
+    switch (answer[0]) {
+    case VCPU_ANSWER_NOTHING:
         if (reason == EXIT_PREEMPTION_TIMER)
             memory[FLAG] = 1;
         return 0;
+    case VCPU_ANSWER_HYPERCALL:
+        hypercall(answer);
+        return 0;
+    case VCPU_ANSWER_IO_READ:
+        answer_in(answer[1], answer[2]);
+        return 0;
+    case VCPU_ANSWER_IO_WRITE:
+        check_out(answer[1], answer[2], answer[3]);
+        return 0;
+    case VCPU_ANSWER_EXTERNAL_INTERRUPT:
+        interrupt(answer[1]);
+        return 0;
+    case VCPU_ANSWER_SYS_REG_READ:
+        answer_rdmsr(answer[1]);
+        return 0;
+    case VCPU_ANSWER_SYS_REG_WRITE:
+        answer_wrmsr(answer[1], answer[2]);
+        return 0;
+    case VCPU_ANSWER_APIC_READ:
+        answer_apic_read(answer[1]);
+        return 0;
+    case VCPU_ANSWER_APIC_WRITE:
+        answer_apic_write(answer[1], answer[2]);
+        return 0;
+    default:
+        return last(answer, reason);
     }
 }

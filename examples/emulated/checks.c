@@ -161,8 +161,25 @@ static void check_counts(void)
     check("launched", was_launched, 1);
     check("waiting", waiting, 0);
     check("entries", entries, count.exits);
+    check("entries that held", held, count.held);
     check("events that went in", count.written, count.queued);
     check("out of the queue's order", count.out_of_order, 0);
+}
+
+static unsigned ones(const uint8_t *frame)
+{
+    unsigned n = 0, i;
+
+    for (i = 0; i < 8 * VCPU_FRAME_LENGTH; i++)
+        n += frame[i / 8] >> i % 8 & 1;
+    return n;
+}
+
+/* Setup traps one port, and reads and writes of 65 MSRs; the host eight ports, and reads of one MSR (add_intercepts). */
+static void check_frames(void)
+{
+    check("ports that are trapped", ones(io_a) + ones(io_b), 1 + 8);
+    check("accesses of MSRs that are trapped", ones(msrs), 2 * 65 + 1);
 }
 
 static void check_done(void)
@@ -174,6 +191,7 @@ static void check_done(void)
     case DONE_MAIN:
         check_main();
         check_log();
+        check_frames();
         check_breakpoint();
         break;
     case DONE_MANY:

@@ -115,8 +115,10 @@ int enter(void)
         carry_setup();
     if (!deviates(DIRTY_REGION))
         compare_fields();
-    if (event == VCPU_EVENT_HELD)
+    if (event == VCPU_EVENT_HELD) {
+        count.held++;
         tell("  event held\n");
+    }
     if (event == VCPU_EVENT_WRITTEN) {
         fit_event();
         follow_order();

@@ -179,7 +179,7 @@ static void tell_answer(const uint64_t *answer)
     for (i = 1; i < VCPU_ANSWER_WORDS; i++)
         if (answer[i])
             last = i;
-    tell(" -> %s", names[answer[0]]);
+    tell(" -> %s", answer[0] < sizeof names / sizeof names[0] ? names[answer[0]] : "no answer");
     for (i = 1; i <= last; i++)
         tell(" %x", answer[i]);
     tell("; RIP %x\n", field(VmcsGuestNW_RIP));

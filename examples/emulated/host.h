@@ -148,7 +148,7 @@ extern int launched;
 
 /* checks.c: what was seen, and what should have been */
 struct counts {
-    unsigned exits, by_reason[65], queued, refused, written, out_of_order, ticks, checks, wrong, windows_in_a_row;
+    unsigned exits, by_reason[65], queued, refused, written, held, out_of_order, ticks, checks, wrong, windows_in_a_row;
 };
 extern struct counts count;
 extern uint8_t queued[MANY_ROOM];

@@ -89,6 +89,8 @@ static void check_main(void)
     check_saw("CR0 as first read", SAW_CR0, 0x60000010);
     check_saw("CR4 as first read", SAW_CR4, 0x2000);
     cpuid(1, 0, r);
+    check_saw("CPUID 1, EAX: without bit 7", SAW_CPUID_1, r[0] & ~(1u << 7));
+    check_saw("CPUID 1, EBX", SAW_CPUID_1 + 1, r[1]);
     check_saw("CPUID 1, ECX: no VMX, a hypervisor", SAW_CPUID_1 + 2, (r[2] & ~(1u << 5)) | 1u << 31);
     check_saw("CPUID 1, EDX", SAW_CPUID_1 + 3, r[3]);
     check_saw("CPUID 0x40000000, EAX", SAW_CPUID_VENDOR, 0x40000001);
@@ -102,7 +104,8 @@ static void check_main(void)
     check_saw("ECX after REP OUTS", SAW_OUTS_CX, 5);
     check_saw("RDMSR, EAX", SAW_RDMSR, 0x11223344);
     check_saw("RDMSR, EDX", SAW_RDMSR + 1, 0xAABBCCDD);
-    check("RDMSR that is not trapped", saw(SAW_RDMSR_OPEN) | (uint64_t)saw(SAW_RDMSR_OPEN + 1) << 32, rdmsr(IA32_PAT));
+    check("RDMSR that is not trapped: the guest's PAT", saw(SAW_RDMSR_OPEN) | (uint64_t)saw(SAW_RDMSR_OPEN + 1) << 32, GUEST_PAT);
+    check("the host's PAT", rdmsr(IA32_PAT), host_pat);
     check_saw("APIC register, EAX", SAW_APIC, 0x3456789A);
     check_saw("APIC register, EDX", SAW_APIC + 1, 0x12);
     check_saw("XMM0 after exits", SAW_XMM, 0x12345678);

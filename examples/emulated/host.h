@@ -129,7 +129,10 @@ uint32_t saw(unsigned n);
 
 /* setup.c: the session */
 extern uint8_t io_a[VCPU_FRAME_LENGTH], io_b[VCPU_FRAME_LENGTH], msrs[VCPU_FRAME_LENGTH];
+extern uint64_t host_pat;
 void make_session(uint64_t guest);
+/* Not the host's: every memory type is write-back. */
+#define GUEST_PAT 0x0606060606060606
 
 /* enter.S, entry.c, exit.c, answer.c: one round. Each int is 1 where the guest is to run no further. */
 struct guest_area {

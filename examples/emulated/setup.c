@@ -6,6 +6,7 @@
 #define WORDS 13
 
 PAGE uint8_t io_a[VCPU_FRAME_LENGTH], io_b[VCPU_FRAME_LENGTH], msrs[VCPU_FRAME_LENGTH];
+uint64_t host_pat;
 static uint8_t block[VCPU_SETUP_LENGTH];
 static const uint16_t word_msr[WORDS] = {0x481, 0x482, 0x483, 0x484, 0x486, 0x487, 0x488, 0x489, 0x48B, 0x48D, 0x48E, 0x48F, 0x490};
 
@@ -35,7 +36,8 @@ static void put_words(void)
 /* The host's state, to which an exit returns. FS and GS have the selector 0. */
 static void put_host(void)
 {
-    put(block, VCPU_SETUP_HOST_PAT, 8, rdmsr(IA32_PAT));
+    host_pat = rdmsr(IA32_PAT);
+    put(block, VCPU_SETUP_HOST_PAT, 8, host_pat);
     put(block, VCPU_SETUP_HOST_EFER, 8, rdmsr(IA32_EFER));
     put(block, VCPU_SETUP_HOST_CR0, 8, read_cr0());
     put(block, VCPU_SETUP_HOST_CR3, 8, read_cr3());
@@ -56,7 +58,7 @@ static void put_host(void)
 static void put_guest(uint64_t rip)
 {
     put(block, VCPU_SETUP_ENTRY, 8, rip);
-    put(block, VCPU_SETUP_GUEST_PAT, 8, rdmsr(IA32_PAT));
+    put(block, VCPU_SETUP_GUEST_PAT, 8, GUEST_PAT);
     put(block, VCPU_SETUP_EPT_ROOT, 8, lay_memory());
     put(block, VCPU_SETUP_IO_BITMAP_A, 8, (uint64_t)io_a);
     put(block, VCPU_SETUP_IO_BITMAP_B, 8, (uint64_t)io_b);

@@ -6,10 +6,9 @@
 #define APIC_READS 0x123456789A
 #define MSR_READS_LOW 0x11223344
 #define MSR_READS_HIGH 0xAABBCCDD
-#define UD2_LENGTH 2
 
-/* The vector to be queued when the hole is touched, and whether interrupts come at random. */
-static uint64_t at_hole;
+/* The vector to be queued at the next exit that completes nothing, and whether interrupts come at random. */
+static uint64_t at_next;
 static int random;
 
 /* ---- Events ---- */
@@ -31,6 +30,22 @@ void queue(uint8_t vector, uint8_t coded, uint32_t code)
 void inject(uint64_t vector)
 {
     queued_or_not((uint8_t)vector, vcpu_inject_interrupt(record, sizeof record, vector));
+}
+
+/* An NMI goes in at once, and the processor takes none while STI or MOV SS blocks: it waits for an exit where neither does. */
+static int late_nmi;
+
+void queue_nmi(void)
+{
+    late_nmi = field(VmcsGuest32_INTERRUPTIBILITY_STATE) & BLOCKING_STI_MOV_SS && !deviates(NMI_AT_ONCE);
+    if (!late_nmi)
+        queue(2, 0, 0);
+}
+
+void queue_late_nmi(void)
+{
+    if (late_nmi)
+        queue_nmi();
 }
 
 /* The same numbers on every run. */
@@ -80,6 +95,17 @@ static void activate_timer(void)
     set_field(VmcsGuest32_VMX_PREEMPTION_TIMER_VALUE, 1000);
 }
 
+static void use_another(void)
+{
+    if (!deviates(NOT_COPIED)) {
+        copy_vmcs();
+        return;
+    }
+    load_vmcs(1);
+    carry_setup();
+    carry_others();
+}
+
 static void hypercall(const uint64_t *answer)
 {
     switch (answer[1]) {
@@ -102,13 +128,16 @@ static void hypercall(const uint64_t *answer)
         set_reg(RAX, waiting());
         break;
     case CALL_MOVE:
-        load_vmcs();
+        load_vmcs(0);
+        break;
+    case CALL_ANOTHER:
+        use_another();
         break;
     case CALL_PREEMPTION:
         activate_timer();
         break;
-    case CALL_AT_HOLE:
-        at_hole = answer[2];
+    case CALL_AT_NEXT:
+        at_next = answer[2];
         break;
     }
 }
@@ -132,11 +161,10 @@ static void check_out(uint64_t port, uint64_t width, uint64_t data)
     check("data of OUT", data, 0x11223341 & ((1ull << 8 * width) - 1));
 }
 
-/* Past an instruction that the core leaves to the host; with it ends blocking by STI and MOV SS. */
-static void step(uint64_t length)
+/* Past an instruction that the core leaves to the host. */
+static void step(void)
 {
-    set_field(VmcsGuestNW_RIP, field(VmcsGuestNW_RIP) + length);
-    set_field(VmcsGuest32_INTERRUPTIBILITY_STATE, field(VmcsGuest32_INTERRUPTIBILITY_STATE) & ~(uint64_t)BLOCKING_STI_MOV_SS);
+    set_field(VmcsGuestNW_RIP, field(VmcsGuestNW_RIP) + vmread(VmcsReadOnly32_VMEXIT_INSTRUCTION_LEN));
 }
 
 static void answer_rdmsr(uint64_t msr)
@@ -144,14 +172,14 @@ static void answer_rdmsr(uint64_t msr)
     check("MSR of RDMSR", msr, IA32_EFER);
     set_reg(RAX, MSR_READS_LOW);
     set_reg(RDX, MSR_READS_HIGH);
-    step(vmread(VmcsReadOnly32_VMEXIT_INSTRUCTION_LEN));
+    step();
 }
 
 static void answer_wrmsr(uint64_t msr, uint64_t value)
 {
     check("MSR of WRMSR", msr, 0xE1);
     check("value of WRMSR", value, 0x1155667788);
-    step(vmread(VmcsReadOnly32_VMEXIT_INSTRUCTION_LEN));
+    step();
 }
 
 static void answer_apic_read(uint64_t msr)
@@ -177,6 +205,15 @@ static void interrupt(uint64_t vector)
 
 /* ---- Exits that the core leaves to the host ---- */
 
+static void queue_at_next(void)
+{
+    if (at_next == 2)
+        queue_nmi();
+    else if (at_next)
+        inject(at_next);
+    at_next = 0;
+}
+
 static int halted(uint32_t reason)
 {
     uint64_t info = vmread(VmcsReadOnly32_VMEXIT_INTERRUPTION_INFO);
@@ -185,7 +222,8 @@ static int halted(uint32_t reason)
     case EXIT_EXCEPTION:
         if ((uint8_t)info != 6)
             break;
-        step(UD2_LENGTH);
+        queue_at_next();
+        raise_fault(6);
         return 0;
     case EXIT_IO: /* a string instruction; RIP is past it */
         return 0;
@@ -193,8 +231,7 @@ static int halted(uint32_t reason)
         tell("  EPT violation at %x\n", vmread(VmcsReadOnly64_GUEST_PHYSICAL_ADDR));
         if (vmread(VmcsReadOnly64_GUEST_PHYSICAL_ADDR) / 4096 != HOLE / 4096 || !map_hole())
             break;
-        if (at_hole)
-            inject(at_hole);
+        queue_at_next();
         return 0;
     }
     return ending("Halt at reason %d, interruption information %x", reason, info);

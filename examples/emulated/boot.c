@@ -9,7 +9,7 @@ void host_trap(uint64_t vector, uint64_t code, uint64_t rip);
 
 uint64_t gdt[5], idt[512];
 uint8_t tss[104];
-static PAGE uint8_t vmxon_region[4096], vmcs_region[4096];
+static PAGE uint8_t vmxon_region[4096], vmcs_regions[2][4096];
 
 void load_tables(void)
 {
@@ -33,7 +33,10 @@ void load_tables(void)
     gdtr.base = (uint64_t)gdt;
     idtr.limit = sizeof idt - 1;
     idtr.base = (uint64_t)idt;
-    ASM("lgdt %0; lidt %1; ltr %w2" : : "m"(gdtr), "m"(idtr), "r"(HOST_TR));
+    ASM("lgdt %0; lidt %1; ltr %w2" : : "m"(gdtr), "m"(idtr), "r"(HOST_TR) : "memory");
+    wrmsr(IA32_SYSENTER_CS, HOST_CS);
+    wrmsr(IA32_SYSENTER_ESP, 0x5000);
+    wrmsr(IA32_SYSENTER_EIP, 0x6000);
 }
 
 void host_trap(uint64_t vector, uint64_t code, uint64_t rip)
@@ -46,6 +49,7 @@ void host_trap(uint64_t vector, uint64_t code, uint64_t rip)
 void enable_vmx(void)
 {
     uint32_t r[4];
+    unsigned i;
 
     cpuid(1, 0, r);
     if (!(r[2] >> 5 & 1)) {
@@ -66,15 +70,17 @@ void enable_vmx(void)
         stop();
     }
     /* The first bytes of a region are its revision and the abort indicator; the rest of a new one is zero. */
-    memset(vmcs_region, deviates(DIRTY_REGION) ? 0xA5 : 0, sizeof vmcs_region);
-    put(vmcs_region, 0, 8, rdmsr(IA32_VMX_BASIC) & 0x7FFFFFFF);
-    load_vmcs();
+    for (i = 0; i < 2; i++) {
+        memset(vmcs_regions[i], deviates(DIRTY_REGION) ? 0xFF : 0, sizeof vmcs_regions[i]);
+        put(vmcs_regions[i], 0, 8, rdmsr(IA32_VMX_BASIC) & 0x7FFFFFFF);
+    }
+    load_vmcs(0);
 }
 
 /* A VMCS that is clear, and current. After this the next entry is VMLAUNCH, whatever the record says. */
-void load_vmcs(void)
+void load_vmcs(int which)
 {
-    if (vmclear(vmcs_region) || vmptrld(vmcs_region)) {
+    if (vmclear(vmcs_regions[0]) || vmclear(vmcs_regions[1]) || vmptrld(vmcs_regions[which])) {
         ending("VMCLEAR or VMPTRLD failed");
         stop();
     }

@@ -81,13 +81,11 @@ static void check_saw(const char *what, unsigned n, uint64_t should)
     check(what, saw(n), should);
 }
 
-/* What the main guest saw of ports, MSRs, CPUID and control registers. */
-static void check_main(void)
+/* CPUID as the main guest saw it, beside the processor's. */
+static void check_cpuid(void)
 {
     uint32_t r[4];
 
-    check_saw("CR0 as first read", SAW_CR0, 0x60000010);
-    check_saw("CR4 as first read", SAW_CR4, 0x2000);
     cpuid(1, 0, r);
     check_saw("CPUID 1, EAX: without bit 7", SAW_CPUID_1, r[0] & ~(1u << 7));
     check_saw("CPUID 1, EBX", SAW_CPUID_1 + 1, r[1]);
@@ -97,6 +95,15 @@ static void check_main(void)
     check_saw("vendor, RVMR", SAW_CPUID_VENDOR + 1, 0x524D5652);
     check_saw("vendor, VMRV", SAW_CPUID_VENDOR + 2, 0x56524D56);
     check_saw("vendor, MRVM", SAW_CPUID_VENDOR + 3, 0x4D56524D);
+    cpuid(4, 1, r);
+    check_saw("CPUID 4, subleaf 1, EAX", SAW_CPUID_4, r[0]);
+}
+
+/* What the main guest saw of ports, MSRs and control registers. */
+static void check_main(void)
+{
+    check_saw("CR0 as first read", SAW_CR0, 0x60000010);
+    check_saw("CR4 as first read", SAW_CR4, 0x2000);
     check_saw("IN of one byte", SAW_IN_1, 0x1122335A);
     check_saw("IN of two bytes", SAW_IN_2, 0x1122C75A);
     check_saw("IN of four bytes", SAW_IN_4, 0xA5B6C75A);
@@ -105,7 +112,6 @@ static void check_main(void)
     check_saw("RDMSR, EAX", SAW_RDMSR, 0x11223344);
     check_saw("RDMSR, EDX", SAW_RDMSR + 1, 0xAABBCCDD);
     check("RDMSR that is not trapped: the guest's PAT", saw(SAW_RDMSR_OPEN) | (uint64_t)saw(SAW_RDMSR_OPEN + 1) << 32, GUEST_PAT);
-    check("the host's PAT", rdmsr(IA32_PAT), host_pat);
     check_saw("APIC register, EAX", SAW_APIC, 0x3456789A);
     check_saw("APIC register, EDX", SAW_APIC + 1, 0x12);
     check_saw("XMM0 after exits", SAW_XMM, 0x12345678);
@@ -119,7 +125,7 @@ static void check_main(void)
 /* The order of what happened to the main guest; guest/main.S says what stands for what. */
 static void check_log(void)
 {
-    static const uint8_t should[] = {0xFE, 0x20, 0x21, 0xFD, 0x22, 0xFC, 0x02, 0xFB, 0x03, 0xFA, 0x0E, 0xF9};
+    static const uint8_t should[] = {0xFE, 0x20, 0x21, 0xFD, 0x22, 0xFC, 0x02, 0xFB, 0x06, 0x03, 0xFA, 0x0E, 0xF9};
     unsigned i;
 
     check("length of the log", memory[LOG], sizeof should);
@@ -169,6 +175,14 @@ static void check_counts(void)
     check("out of the queue's order", count.out_of_order, 0);
 }
 
+/* What each exit loads for the host. */
+static void check_host(void)
+{
+    check("the host's PAT", rdmsr(IA32_PAT), host_pat);
+    check("the host's SYSENTER_CS", rdmsr(IA32_SYSENTER_CS), HOST_CS);
+    check("the host's SYSENTER_EIP", rdmsr(IA32_SYSENTER_EIP), 0x6000);
+}
+
 static unsigned ones(const uint8_t *frame)
 {
     unsigned n = 0, i;
@@ -193,6 +207,7 @@ static void check_done(void)
     switch (done) {
     case DONE_MAIN:
         check_main();
+        check_cpuid();
         check_log();
         check_frames();
         check_breakpoint();
@@ -234,6 +249,7 @@ void conclude(void)
 
     if (ran_to_its_end) {
         check_counts();
+        check_host();
         check_done();
     }
     say("log:");

@@ -14,6 +14,7 @@ vm_enter:
     push    %r13
     push    %r14
     push    %r15
+    push    %rdi
     mov     %rsp, HOST_RSP(%rdi)
     fxsave64 HOST_FX(%rdi)
     fxrstor64 GUEST_FX(%rdi)
@@ -40,7 +41,7 @@ vm_enter:
 2:  mov     $1, %eax                    # VMfail: the registers are the guest's, RSP is still the host's
     jc      3f
     mov     $2, %eax
-3:  lea     guest_area(%rip), %rdi
+3:  mov     (%rsp), %rdi
     fxrstor64 HOST_FX(%rdi)
     jmp     4f
 
@@ -67,7 +68,8 @@ vm_exit:
     fxrstor64 HOST_FX(%rdi)
     mov     HOST_RSP(%rdi), %rsp
     xor     %eax, %eax
-4:  pop     %r15
+4:  pop     %rdi
+    pop     %r15
     pop     %r14
     pop     %r13
     pop     %r12

@@ -5,6 +5,8 @@
 struct guest_area guest_area __attribute__((aligned(16)));
 /* Whether the current VMCS was launched: the processor's state, which VMCLEAR ends and the record does not follow. */
 int launched;
+/* The event of the last entry as the VMCS had it; none where it was a fault of the guest's instruction. */
+uint64_t entered_with;
 /* The guest's CR2, which is in no field. */
 static uint64_t guest_cr2;
 
@@ -44,6 +46,31 @@ static void carry_entry(uint8_t resumed, uint8_t event)
         carry(VmcsControl32_VMENTRY_EXCEPTION_ERR_CODE);
         carry(VmcsControl32_VMENTRY_INSTRUCTION_LEN);
     }
+}
+
+/*
+ * A fault of the guest's present instruction. The queue would bring it too late: behind an interrupt that is held, or in the handler of one that goes in. It
+ * goes into the VMCS alone; where the entry writes an event it does not, and the guest meets it again, since RIP is still at the instruction.
+ */
+static uint64_t fault;
+static int fault_written;
+
+void raise_fault(uint8_t vector)
+{
+    if (deviates(QUEUE_FAULT))
+        queue(vector, 0, 0);
+    else
+        fault = INFO_VALID | INFO_HARDWARE_EXCEPTION | vector;
+}
+
+static void write_fault(uint8_t event)
+{
+    fault_written = fault && event != VCPU_EVENT_WRITTEN;
+    if (fault_written) {
+        vmwrite(VmcsControl32_VMENTRY_INTERRUPTION_INFO_FIELD, fault);
+        tell("  fault written: word %x\n", fault);
+    }
+    fault = 0;
 }
 
 /* In the queue's order? The vectors that entries wrote are those that were queued, one by one. */
@@ -92,9 +119,10 @@ static int run_guest(uint8_t resumed)
         guest_area.regs[i] = i == 4 ? 0 : reg(i);
     check_entry();
     write_cr2(guest_cr2);
-    do
+    do {
+        entered_with = fault_written ? 0 : vmread(VmcsControl32_VMENTRY_INTERRUPTION_INFO_FIELD);
         way = vm_enter(&guest_area, resume);
-    while (way && repair(way, &resume));
+    } while (way && repair(way, &resume));
     guest_cr2 = read_cr2();
     write_cr2(0); /* as a page fault of the host would */
     /* an entry that fails, by VMfail or by bit 31 of the reason, leaves the VMCS as it was, clear or launched */
@@ -123,5 +151,6 @@ int enter(void)
         fit_event();
         follow_order();
     }
+    write_fault(event);
     return run_guest(resumed);
 }

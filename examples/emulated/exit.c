@@ -155,16 +155,19 @@ static void carry_move(uint64_t controls_before, uint64_t bits_before)
 /* ---- The exit ---- */
 
 /*
- * An exit while an event was delivered: the event did not arrive, and no report tells the core. It is queued again, behind those that wait. INT n is not:
- * the guest executes it again. INT1, INT3 and INTO return to RIP plus their length, where RIP is put.
+ * An exit while an event was delivered: the event did not arrive, and no report tells the core. What came of the guest's instruction comes again, since RIP
+ * is still there. What this entry put in, and an interrupt or NMI, is queued again, behind those that wait; INT1, INT3 and INTO return to RIP plus their
+ * length, where RIP is put.
  */
 static void queue_vectoring(void)
 {
     uint64_t info = vmread(VmcsReadOnly32_IDT_VECTORING_INFO);
 
-    if (!(info & INFO_VALID) || INFO_SOFTWARE_INTERRUPT(info) || deviates(LOSE_VECTORING))
+    if (!(info & INFO_VALID) || deviates(LOSE_VECTORING))
         return;
     tell("  an exit during delivery of %x\n", info);
+    if (INFO_OF_INSTRUCTION(info) && (info & INFO_WHAT) != (entered_with & INFO_WHAT))
+        return;
     if (INFO_SOFTWARE_EXCEPTION(info))
         set_field(VmcsGuestNW_RIP, field(VmcsGuestNW_RIP) + vmread(VmcsReadOnly32_VMEXIT_INSTRUCTION_LEN));
     queue((uint8_t)info, info & INFO_CODE ? 1 : 0, (uint32_t)vmread(VmcsReadOnly32_IDT_VECTORING_ERR_CODE));
@@ -196,8 +199,10 @@ int leave(void)
     tell("exit %d: reason %x, qualification %x, RIP %x", count.exits, (uint64_t)reason, vmread(VmcsReadOnlyNW_EXIT_QUALIFICATION), vmread(VmcsGuestNW_RIP));
     fill_report(reason);
     number = vcpu_exit_report(record, sizeof record, report, sizeof report, answer);
-    if (number)
+    if (number) {
+        tell("\n");
         return ending("report refused %d", number);
+    }
     tell_answer(answer);
     carry(VmcsGuestNW_RIP);
     if (reason == EXIT_INTERRUPT_WINDOW)
@@ -208,5 +213,6 @@ int leave(void)
         carry_move(controls, paging);
     if (answer[0] != VCPU_ANSWER_FAIL_ENTRY)
         queue_vectoring();
+    queue_late_nmi();
     return act(answer, reason);
 }

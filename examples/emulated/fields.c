@@ -60,6 +60,23 @@ void carry_others(void)
         carry(VmcsControl32_PAGEFAULT_ERR_CODE_MASK);
         carry(VmcsControl32_PAGEFAULT_ERR_CODE_MATCH);
     }
+    if (field(VmcsControl32_SECONDARY_PROCBASED_EXEC_CONTROLS) & SECONDARY_XSAVES && !deviates(NO_XSS_BITMAP))
+        carry(VmcsControl64_XSS_EXITING_BITMAP);
+}
+
+/* To another VMCS: all that the old one holds, since the record has most of the guest's fields as setup wrote them. */
+void copy_vmcs(void)
+{
+    static uint64_t values[0x4000];
+    static uint8_t has[0x4000];
+    unsigned i;
+
+    for (i = 0; i < 0x4000; i++)
+        has[i] = (i >> 9 & 3) != 1 && !vmread_to(2 * i, &values[i]);
+    load_vmcs(1);
+    for (i = 0; i < 0x4000; i++)
+        if (has[i])
+            vmwrite(2 * i, values[i]);
 }
 
 /* ---- Record and VMCS compared, before each entry ---- */
@@ -109,7 +126,7 @@ static uint64_t apart(uint16_t encoding)
     case VmcsGuest32_INTERRUPTIBILITY_STATE:
         return ~(uint64_t)BLOCKING_STI_MOV_SS;
     case VmcsControl32_VMENTRY_INTERRUPTION_INFO_FIELD:
-        return INFO_CODE;
+        return ~INFO_VALID;
     case VmcsControl32_VMENTRY_INSTRUCTION_LEN:
         return ~0ull;
     default:

@@ -13,6 +13,7 @@
 enum {
     VCPU_SETUP_FIELDS(NAMED)
     VmcsHostNW_RSP = 0x6C14,
+    VmcsControl64_XSS_EXITING_BITMAP = 0x202C,
     VmcsGuest64_PDPTE0 = 0x280A,
     VmcsControl32_PAGEFAULT_ERR_CODE_MASK = 0x4006,
     VmcsControl32_PAGEFAULT_ERR_CODE_MATCH = 0x4008,
@@ -33,6 +34,9 @@ enum {
 /* MSRs. */
 enum {
     IA32_FEATURE_CONTROL = 0x3A,
+    IA32_SYSENTER_CS = 0x174,
+    IA32_SYSENTER_ESP = 0x175,
+    IA32_SYSENTER_EIP = 0x176,
     IA32_PAT = 0x277,
     IA32_VMX_BASIC = 0x480,
     IA32_VMX_PROCBASED_CTLS = 0x482,
@@ -65,10 +69,13 @@ enum {
 #define BLOCKING_STI_MOV_SS 3u
 #define INFO_VALID (1ull << 31)
 #define INFO_CODE (1ull << 11)
+#define INFO_HARDWARE_EXCEPTION (3ull << 8)
 #define INFO_TYPE(info) ((info) >> 8 & 7)
-#define INFO_SOFTWARE_INTERRUPT(info) (INFO_TYPE(info) == 4)                         /* INT n */
+#define INFO_WHAT (INFO_VALID | 0x7FF)                                                /* valid, type, vector */
+#define INFO_OF_INSTRUCTION(info) (INFO_TYPE(info) >= 3)                              /* INT n and exceptions */
 #define INFO_SOFTWARE_EXCEPTION(info) (INFO_TYPE(info) == 5 || INFO_TYPE(info) == 6) /* INT1, INT3, INTO */
 #define PIN_PREEMPTION_TIMER (1ull << 6)
+#define SECONDARY_XSAVES (1ull << 20)
 
 /* Exit reasons (SDM 3D, appendix C). */
 enum {
@@ -103,7 +110,7 @@ extern uint64_t gdt[5], idt[512];
 extern uint8_t tss[104];
 void load_tables(void);
 void enable_vmx(void);
-void load_vmcs(void);
+void load_vmcs(int which);
 void start_timer(void);
 void end_of_interrupt(void);
 
@@ -117,6 +124,7 @@ void set_reg(unsigned i, uint64_t x);
 void carry(uint64_t encoding);
 void carry_setup(void);
 void carry_others(void);
+void copy_vmcs(void);
 void find_fields(void);
 void compare_fields(void);
 void list_stale_fields(void);
@@ -147,7 +155,11 @@ int leave(void);
 int act(const uint64_t *answer, uint32_t reason);
 void queue(uint8_t vector, uint8_t coded, uint32_t code);
 void inject(uint64_t vector);
+void raise_fault(uint8_t vector);
+void queue_nmi(void);
+void queue_late_nmi(void);
 extern int launched;
+extern uint64_t entered_with;
 
 /* checks.c: what was seen, and what should have been */
 struct counts {

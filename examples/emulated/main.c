@@ -35,6 +35,8 @@ static int endless(void)
 {
     if (count.windows_in_a_row >= WINDOWS_AT_MOST)
         return ending("exits of reason 7 without end");
+    if (count.refused)
+        return ending("the queue is full");
     if (count.exits >= EXITS_AT_MOST)
         return ending("no end after %d exits", count.exits);
     return 0;

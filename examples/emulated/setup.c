@@ -138,6 +138,23 @@ static void add_intercepts(void)
     check("an edit of MSRs", vcpu_set_read_intercept(msrs, sizeof msrs, IA32_EFER, 1), 0);
 }
 
+/*
+ * What setup leaves that this processor or this host has otherwise: accessed and dirty flags of the EPT, where the processor lacks them; and the host's
+ * SYSENTER, which setup writes as 0 and each exit loads.
+ */
+static void mend_setup(void)
+{
+    if (!(rdmsr(IA32_VMX_EPT_VPID_CAP) >> 21 & 1) && !deviates(KEEP_EPT_FLAGS)) {
+        say("EPT pointer: bit 6 cleared\n");
+        set_field(VmcsControl64_EPTP, field(VmcsControl64_EPTP) & ~EPTP_FLAGS);
+    }
+    if (!deviates(ZERO_SYSENTER)) {
+        set_field(VmcsHost32_IA32_SYSENTER_CS, rdmsr(IA32_SYSENTER_CS));
+        set_field(VmcsHostNW_IA32_SYSENTER_ESP, rdmsr(IA32_SYSENTER_ESP));
+        set_field(VmcsHostNW_IA32_SYSENTER_EIP, rdmsr(IA32_SYSENTER_EIP));
+    }
+}
+
 /* Makes the session and carries it to the VMCS. Where setup refuses, the run ends here. */
 void make_session(uint64_t guest)
 {
@@ -163,9 +180,5 @@ void make_session(uint64_t guest)
     find_fields();
     carry_setup();
     carry_others();
-    /* Accessed and dirty flags of the EPT, where the processor lacks them. */
-    if (!(rdmsr(IA32_VMX_EPT_VPID_CAP) >> 21 & 1) && !deviates(KEEP_EPT_FLAGS)) {
-        say("EPT pointer: bit 6 cleared\n");
-        set_field(VmcsControl64_EPTP, field(VmcsControl64_EPTP) & ~EPTP_FLAGS);
-    }
+    mend_setup();
 }

@@ -3,34 +3,21 @@
     finish  DONE_PLAIN
 
     begin   codes                       # exceptions with an error code, in protected mode: 14 with the caller's, 13 with the exit's
-    mov     $0x11, %eax
-    mov     %eax, %cr0
-    lgdtl   gdtr
-    lidtl   idtr
-    ljmpl   $8, $1f
-    .code32
-1:  mov     $0x10, %eax
-    mov     %eax, %ds
-    mov     %eax, %ss
-    mov     $0x5FF0, %esp
+    protect 0x5FF0
     movl    $0x77, SAW(SAW_CODE_13)
     hypercall CALL_QUEUE 14 1 2
     hypercall CALL_QUEUE 13
     finish  DONE_CODES
 
     begin   delivery_code               # the same where the stack is in a page that the EPT lacks
-    mov     $0x11, %eax
-    mov     %eax, %cr0
-    lgdtl   gdtr
-    lidtl   idtr
-    ljmpl   $8, $1f
-    .code32
-1:  mov     $0x10, %eax
-    mov     %eax, %ds
-    mov     %eax, %ss
-    mov     $(HOLE + 0xFF0), %esp
+    protect (HOLE + 0xFF0)
     hypercall CALL_QUEUE 14 1 2
     finish  DONE_CODE
+
+    begin   wide_code                   # a code of more than 16 bits
+    protect 0x5FF0
+    hypercall CALL_QUEUE 14 1 0x10002
+    finish  DONE_PLAIN
 
     begin   code_in_real_mode           # a general-protection fault with a code, where no mode has codes
     hypercall CALL_QUEUE 0x0D 1 0x18
@@ -74,6 +61,24 @@ first_breakpoint:                       # the host has queued vector 3 before th
     movl    $1b, SAW(SAW_RETURN_TO)
     finish  DONE_BREAKPOINT
 
+    begin   delivery_own                # the guest's own divide error, while an interrupt is held: it comes again by itself
+    movl    $2f, 0
+    hypercall CALL_QUEUE 0x20
+    mov     $(HOLE + 0xFF0), %sp
+    mov     $0x1234, %ax
+    xor     %bx, %bx
+    div     %bl
+    note    0xF0
+    sti
+    nop
+    nop
+    cli
+    note    0xF1
+    finish  DONE_PLAIN
+2:  mov     $0x80, %bl                  # its handler
+    note    0x00
+    iret
+
     begin   delivery_int                # INT n: the guest executes it again
     mov     $(HOLE + 0xFF0), %sp
     int     $0x20
@@ -101,6 +106,16 @@ first_breakpoint:                       # the host has queued vector 3 before th
     cli
     note    \number
     .endm
+    begin   nmi_shadow                  # an NMI at an exit in the shadow of MOV SS whose instruction is yet to be done
+    hypercall CALL_AT_NEXT 2
+    xor     %edx, %edx
+    mov     %dx, %ss
+    movl    $0x5AD0, HOLE
+    note    0xF0
+    hypercall CALL_HERE
+    note    0xF1
+    finish  DONE_PLAIN
+
     begin   sti_exits                   # instructions that exit, right after STI: without a host the interrupt comes after each
     hypercall CALL_QUEUE 0x20
     mov     $0x40000000, %eax
@@ -132,7 +147,7 @@ first_breakpoint:                       # the host has queued vector 3 before th
     finish  DONE_PLAIN
 
     begin   sti_shadow                  # an exit in STI's shadow whose instruction is yet to be done: the interrupt comes after it
-    hypercall CALL_AT_HOLE 0x20
+    hypercall CALL_AT_NEXT 0x20
     vector  0x20 2f
     sti
     movl    $0x5AD0, HOLE               # an EPT violation; the host queues 0x20 and maps the page
@@ -147,6 +162,26 @@ first_breakpoint:                       # the host has queued vector 3 before th
     popl    %eax
     note    0x20
     iret
+
+    begin   fault                       # UD2 while an interrupt is held: the fault comes first
+    hypercall CALL_QUEUE 0x20
+    ud2
+    note    0xF0
+    sti
+    nop
+    nop
+    cli
+    note    0xF1
+    finish  DONE_PLAIN
+
+    begin   fault_and_interrupt         # UD2 where an interrupt goes in: its handler returns to UD2, which faults again
+    hypercall CALL_AT_NEXT 0x20
+    sti
+    nop
+    ud2
+    cli
+    note    0xF0
+    finish  DONE_PLAIN
 
     begin   sti_hlt                     # a written event ends HLT
     hypercall CALL_TIMER
@@ -193,6 +228,37 @@ first_breakpoint:                       # the host has queued vector 3 before th
     begin   move                        # the VMCS is cleared and loaded again between two entries
     hypercall CALL_MOVE
     hypercall CALL_HERE
+    finish  DONE_PLAIN
+
+    begin   another                     # another VMCS between two entries, in protected mode
+    protect 0x5FF0
+    hypercall CALL_ANOTHER
+    hypercall CALL_HERE
+    finish  DONE_PLAIN
+
+    begin   xsaves                      # XSAVES of state that IA32_XSS has
+    xor     %eax, %eax
+    cpuid
+    cmp     $0xD, %eax
+    jb      2f
+    mov     $0xD, %eax
+    mov     $1, %ecx
+    cpuid
+    bt      $3, %eax
+    jnc     2f
+    mov     %cr4, %eax
+    or      $0x40000, %eax              # OSXSAVE
+    mov     %eax, %cr4
+    mov     $0xDA0, %ecx                # IA32_XSS
+    mov     $0x1800, %eax
+    xor     %edx, %edx
+    wrmsr
+    mov     $0x1801, %eax
+    mov     $0x7000, %bx
+    xsaves  (%bx)
+    note    0xF0
+    finish  DONE_PLAIN
+2:  note    0xEE                        # the processor has no XSAVES
     finish  DONE_PLAIN
 
     begin   preemption_timer            # a loop that nothing else ends

@@ -33,6 +33,20 @@
     call    vectors
     .endm
 
+    .macro protect stack                # protected mode, with this stack
+    mov     $0x11, %eax
+    mov     %eax, %cr0
+    lgdtl   gdtr
+    lidtl   idtr
+    ljmpl   $8, $.Lprotected\@
+    .code32
+.Lprotected\@:
+    mov     $0x10, %eax
+    mov     %eax, %ds
+    mov     %eax, %ss
+    mov     $\stack, %esp
+    .endm
+
 #include "handlers.S"
 #include "main.S"
 #include "modes.S"

@@ -12,7 +12,8 @@
 #define CALL_WAITING 0x16   /* how many events wait? (RAX) */
 #define CALL_MOVE 0x17      /* clear the VMCS and load it again, as for another processor */
 #define CALL_PREEMPTION 0x18 /* activate the VMX-preemption timer */
-#define CALL_AT_HOLE 0x19   /* queue this vector when the page HOLE is first touched */
+#define CALL_AT_NEXT 0x19   /* queue this vector at the next exit that completes nothing */
+#define CALL_ANOTHER 0x1A   /* go on with another VMCS */
 #define ARGUMENT_R8 0x1122334455667788
 #define ARGUMENT_R9 0x99AABBCCDDEEFF00
 
@@ -58,6 +59,7 @@
 #define SAW_CODE_13 28
 #define SAW_CR2 29
 #define SAW_SHADOW 30    /* what the handler found in HOLE */
+#define SAW_CPUID_4 36   /* EAX of subleaf 1 */
 #define SAW_REGISTERS 31 /* 1: all of them stayed over an exit */
 #define SAW_PAE 32       /* one word by four page-directory pointers */
 

@@ -31,6 +31,13 @@ h22:                                    # what the host queues when its timer ha
     popal
     iret
 
+h06:                                    # past UD2
+    push    %bp
+    mov     %sp, %bp
+    addw    $2, 2(%bp)
+    pop     %bp
+    note    0x06
+    iret
 h0d:
     note    0x0D
     iret
@@ -41,6 +48,7 @@ h0d:
 vectors:
     vector  0x02 h02
     vector  0x03 h03
+    vector  0x06 h06
     vector  0x0D h0d
     vector  0x20 h20
     vector  0x21 h21

@@ -25,6 +25,11 @@
     mov     %ecx, SAW(SAW_CPUID_VENDOR + 2)
     mov     %edx, SAW(SAW_CPUID_VENDOR + 3)
 
+    mov     $4, %eax                    # and one with subleaves
+    mov     $1, %ecx
+    cpuid
+    mov     %eax, SAW(SAW_CPUID_4)
+
     mov     $0x11223341, %eax           # OUT of 1, 2 and 4 bytes to trapped ports
     mov     $SERIAL, %dx
     out     %al, %dx
@@ -95,7 +100,7 @@
 
     hypercall CALL_QUEUE 2              # NMI
     note    0xFB
-    ud2                                 # #UD exits; the host steps over it
+    ud2                                 # #UD exits; the host gives it back
     hypercall CALL_QUEUE 3              # a breakpoint goes in where RIP is past VMCALL
 after:
     nop

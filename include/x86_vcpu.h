@@ -135,33 +135,42 @@ extern "C" {
  *
  * Before the first entry:
  * - The host's CR0 has CD and NW clear. An entry does not change them and an exit stores them as the guest's: VCPU_REFUSED_OWNED_BITS [host-cd].
- * - After vcpu_setup it writes the fields of VCPU_SETUP_FIELDS. It starts from a VMCS region of zeros, or writes 0x4006, 0x4008 and 0x4016 too, of which an entry
- *   or the guest meets whatever the region held [dirty-region, dirty-region-event, dirty-page-fault, dirty-page-fault-words].
+ * - Ports and MSRs that the frames do not trap are the guest's, the machine's own too: the host traps what the guest is not to reach [main].
+ * - After vcpu_setup it writes the fields of VCPU_SETUP_FIELDS; and, since an entry or the guest would meet what the VMCS region held, 0x4006, 0x4008 and 0x4016,
+ *   and 0x202C where XSAVES is set [dirty-region, dirty-region-event, dirty-page-fault, dirty-page-fault-words, dirty-xsaves, dirty-xsaves-bitmap].
  * - Where IA32_VMX_EPT_VPID_CAP (0x48C) has bit 21 clear, as on processors before Haswell, it clears bit 6 of the EPT pointer (0x201A) by vcpu_write_field and
  *   writes the field; else the first entry is VMfail 7 [main, ept-flags-kept].
- * - It writes these fields once. Alive in the record after that are the fields that a report brings and those that a call writes; the guest's others (selectors,
+ * - Setup writes the host's SYSENTER fields (0x4C00, 0x6C10, 0x6C12) as 0, which every exit loads. A host that uses SYSENTER writes them by vcpu_write_field and
+ *   then the fields [main, sysenter-zero].
+ * - It writes the fields of setup once. Alive in the record after that are those that a report brings and those that a call writes; the guest's others (selectors,
  *   limits, GDTR, IDTR, rights and bases but for CS and the rights of SS, ..) stay there as setup wrote them, while the guest changes its own [fields-again].
  *
  * At an entry:
  * - After vcpu_entry it writes, where *resumed is 0, host RSP (0x6C14); for a held event the primary controls (0x4002); for a written one 0x4016, 0x4018, 0x401A.
- * - Of a written event a processor refuses (VMfail 7) what the core leaves in it; in the VMCS alone the host writes, while CR0.PE is clear, 0x4016 without bit 11:
- *   a guest in real mode takes no error code [code-in-real-mode, code-in-real-mode-kept]. Vectors 21 to 31 have type 7: it queues none [vector-25].
+ * - A processor refuses some events (VMfail 7). While CR0.PE is clear the host writes 0x4016 without bit 11, in the VMCS alone: a guest in real mode takes no error
+ *   code [code-in-real-mode, code-in-real-mode-kept]. Vectors 21 to 31 have type 7, and a code has 16 bits: it queues none of the first and no wider code
+ *   [vector-25, wide-code].
  * - Vectors 1, 3 and 4 return to RIP plus the length, which is the last exit's, while RIP is past that exit's instruction already (before the first exit it is 0).
- *   In the VMCS alone the host writes 0x401A as 0 or, where IA32_VMX_MISC (0x485) has bit 30 clear, as 1 and RIP (0x681E) less by 1
- *   [breakpoint, breakpoint-exit-length, first-breakpoint, first-breakpoint-exit-length].
- * - It loads all registers, and CR2 and the x87 and SSE state, which are in neither record nor VMCS [main]; and what else guest and host share and no probe has a
- *   use of: DR0 to DR3 and DR6, the MSRs of SYSCALL and SWAPGS, XCR0 and the state that it adds. INVEPT after a change of EPT tables in use is the host's as well.
- * - It enters by VMLAUNCH where the VMCS is clear and by VMRESUME where it was launched. After VMCLEAR, or on another VMCS, that is VMLAUNCH whatever *resumed says
- *   [vmcs-moved, vmcs-moved-resumed].
+ *   In the VMCS alone the host writes 0x401A as 0 or, where IA32_VMX_MISC (0x485) has bit 30 clear, as 1 and RIP (0x681E) less by 1, which the guest sees if
+ *   the delivery faults [breakpoint, breakpoint-exit-length, first-breakpoint, first-breakpoint-exit-length].
+ * - An entry looks at the front of the queue alone, so an exception waits behind a held interrupt. A fault of the guest's present instruction, as #UD of reason 0,
+ *   is therefore not queued: where *event is not VCPU_EVENT_WRITTEN the host writes it to 0x4016 and 0x4018 of the VMCS alone, and else it leaves it, since the
+ *   guest comes to the instruction again [fault, fault-queued, fault-and-interrupt].
+ * - Vector 2 goes in at once. The host queues it only while neither bit 0 nor bit 1 of interruptibility (0x4824) is set [nmi-shadow, nmi-shadow-at-once].
+ * - It loads all registers, and CR2 and the x87 and SSE state, which are in neither record nor VMCS [long-mode, main]; and what else guest and host share and no
+ *   probe has a use of: DR0 to DR3 and DR6, the MSRs of SYSCALL, SWAPGS and RDTSCP, XCR0, IA32_XSS and the state that these add.
+ * - It enters by VMLAUNCH where the VMCS is clear and by VMRESUME where it was launched. After VMCLEAR that is VMLAUNCH whatever *resumed says
+ *   [vmcs-moved, vmcs-moved-resumed]. Another VMCS is clear too, and first gets all fields of the old one, by VMREAD, host RSP among them
+ *   [another-vmcs, another-vmcs-not-copied]; on another processor the host's own fields (0x6C02, 0x6C08, ..) by vcpu_write_field besides.
  * - VMfail has no report: the session is running, and a written event is out of the queue. The host puts the VMCS right and repeats the instruction without
- *   another vcpu_entry [ept-flags-kept, vmcs-moved-resumed, code-in-real-mode-kept], or gives the session up.
+ *   another vcpu_entry [ept-flags-kept, vmcs-moved-resumed, wide-code], or gives the session up.
  *
  * At an exit:
  * - The report has what the processor has, but of interruptibility (0x4824) bits 0 and 1 alone. An event is held while any bit is set, and blocking by NMI (bit 3)
  *   does not close the interrupt window: exits of reason 7 would follow one another without end, in an NMI's handler and after it, since IRET does not clear
  *   the bit while NMIs exit [nmi-handler, nmi-handler-reported, nmi-return, nmi-return-reported].
- * - Blocking by STI and MOV SS (bits 0 and 1) ends with one instruction. Where core or host carry that out (reasons 10, 18, 28, 30, 31 and 32) the host clears both
- *   bits in report and VMCS [sti-exits, sti-exits-kept, nmi-mov-ss, nmi-mov-ss-kept], at other exits it leaves them [sti-shadow].
+ * - Blocking by STI and MOV SS (bits 0 and 1) ends with one instruction. Where core or host carry that out (reasons 10, 18, 28, 30, 31 and 32 among them) the host
+ *   clears both bits in report and VMCS [sti-exits, sti-exits-kept, nmi-mov-ss, nmi-mov-ss-kept], at other exits it leaves them [sti-shadow].
  * - After vcpu_exit_report it writes RIP (0x681E); at reason 7 the primary controls; at reason 52 the preemption timer (0x482E); at a move to CR4 0x6804, 0x6006
  *   and 0x6002; at a move to CR0 0x6800, 0x6004, 0x6000, EFER (0x2806) and the entry controls (0x4012), these two as follows.
  * - At a move to CR0 the core sets LMA with PG, whatever LME is, and never clears it; to a processor LMA is LME and PG. Where the record's EFER says otherwise the
@@ -171,12 +180,15 @@ extern "C" {
  *   makes the entry fail [long-mode, long-mode-no-exit, long-mode-no-exit-stale, long-mode-twice, long-mode-twice-changed, leave-no-exit, leave-no-exit-stale].
  * - Where a move leaves PAE paging on without long mode, and changes CD, NW or PG of CR0, or PSE, PAE, PGE or SMEP of CR4, the host writes 0x280A to 0x2810 with
  *   the four entries that CR3 points to in the guest's memory [pae, pae-kept, pae-no-pdptes].
- * - IDT-vectoring information (0x4408) with bit 31 names an event whose delivery the exit ended. The host queues it again, with the code of 0x440A where bit 11 is
- *   set; it then stands last. Not so INT n (type 4), which the guest executes again; and with INT1, INT3 and INTO (types 5 and 6) RIP goes on by the exit's
- *   instruction length [delivery, delivery-lost, delivery-code, delivery-breakpoint, delivery-int, delivery-int3].
+ * - The core tests no value that a guest moves to CR0 or CR4: what a processor would refuse by vector 13 makes the next entry fail, or is dropped
+ *   [pg-without-pe, cr4-reserved].
+ * - IDT-vectoring information (0x4408) with bit 31 names an event whose delivery the exit ended. What came of the guest's instruction comes again by itself
+ *   [delivery-own, delivery-int, delivery-int3]. An interrupt, an NMI and what the entry put in are queued again, with the code of 0x440A where bit 11 is set, and
+ *   then stand last; with vectors 1, 3 and 4 RIP goes on by the exit's instruction length [delivery, delivery-lost, delivery-code, delivery-breakpoint].
+ * - Reason 0 with type 2 in 0x4404 is the machine's NMI, and is Halt: the host runs its handler (no probe). INVEPT after a change of EPT tables in use is the host's.
  * - vcpu_get_cpu_mode and vcpu_gla2gva tell the guest's mode if they are given the guest's EFER (0x2806) in place of the host's [main, host-efer].
  *
- * Raw writes (vcpu_write_field) of the EPT pointer, EFER, RIP and interruptibility, as here, leave all that is proved of the five control words, CR0, CR4 and their
+ * Raw writes (vcpu_write_field) of the EPT pointer, EFER, RIP and host fields, as here, leave all that is proved of the five control words, CR0, CR4 and their
  * masks (docs/DEMAND-3.md). A raw write of one of those nine ends it: from then on the host answers for what the processor permits. So does a host that turns
  * the preemption timer on, by 0x4000 [preemption-timer]; what is put into the VMCS alone the host answers for as well.
  */
@@ -422,7 +434,7 @@ uint32_t vcpu_entry(uint8_t *record, size_t length, uint64_t host_stack, uint8_t
 #define VCPU_ANSWER_IO_WRITE 3
 /* The guest turns its machine off. */
 #define VCPU_ANSWER_SYSTEM_DOWN 4
-/* An interrupt for the host: vector. */
+/* An interrupt for the host, which the exit has acknowledged: vector. */
 #define VCPU_ANSWER_EXTERNAL_INTERRUPT 5
 /* RDMSR: all of RCX; the host puts the value into RAX and RDX. WRMSR: all of RCX, EDX:EAX. RIP is not advanced: the host writes the field 0x681E. */
 #define VCPU_ANSWER_SYS_REG_READ 6

@@ -219,7 +219,7 @@ static void check_done(void)
         check_breakpoint();
         break;
     case DONE_LONG_MODE:
-        check_saw("all registers over an exit", SAW_REGISTERS, 1);
+        check_saw("all registers over an exit, and after CPUID", SAW_REGISTERS, 1);
         break;
     case DONE_PAE:
         check_pae();

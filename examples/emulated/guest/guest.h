@@ -60,7 +60,7 @@
 #define SAW_CR2 29
 #define SAW_SHADOW 30    /* what the handler found in HOLE */
 #define SAW_CPUID_4 36   /* EAX of subleaf 1 */
-#define SAW_REGISTERS 31 /* 1: all of them stayed over an exit */
+#define SAW_REGISTERS 31 /* 1: all stayed over an exit, and CPUID gave its four */
 #define SAW_PAE 32       /* one word by four page-directory pointers */
 
 /* The last word: which checks the host makes, in a guest that came to its end. */

@@ -51,6 +51,14 @@
     mov     $CALL_HERE, %eax
     vmcall
     each    compare
+    movabs  $0xFFFFFFFF40000000, %rax   # CPUID clears the upper halves of its four
+    mov     %rax, %rcx
+    cpuid
+    or      %rbx, %rax
+    or      %rcx, %rax
+    or      %rdx, %rax
+    shr     $32, %rax
+    jnz     2f
     movl    $1, SAW(SAW_REGISTERS)
 2:  finish  DONE_LONG_MODE
 

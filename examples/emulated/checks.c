@@ -152,6 +152,19 @@ static void check_many(void)
     say("handled: %d\n", in_order);
 }
 
+/* Of two faults: the caller's code, and where the caller gives none the exit's. */
+static void check_codes(void)
+{
+    check_saw("code of the page fault", SAW_CODE_14, 2);
+    check_saw("code of the general-protection fault", SAW_CODE_13, field(VmcsReadOnly32_VMEXIT_INTERRUPTION_ERR_CODE));
+}
+
+static void check_timer(void)
+{
+    check("exits of the preemption timer", count.by_reason[EXIT_PREEMPTION_TIMER], 1);
+    check("its next value", vmread(VmcsGuest32_VMX_PREEMPTION_TIMER_VALUE), 1000000);
+}
+
 static void check_pae(void)
 {
     unsigned i;
@@ -228,15 +241,13 @@ static void check_done(void)
         check_saw("code of the page fault", SAW_CODE_14, 2);
         break;
     case DONE_CODES:
-        check_saw("code of the page fault", SAW_CODE_14, 2);
-        check_saw("code of the general-protection fault: the exit's", SAW_CODE_13, field(VmcsReadOnly32_VMEXIT_INTERRUPTION_ERR_CODE));
+        check_codes();
         break;
     case DONE_SHADOW:
         check_saw("the page as the handler found it", SAW_SHADOW, 0x5AD0);
         break;
     case DONE_TIMER:
-        check("exits of the preemption timer", count.by_reason[EXIT_PREEMPTION_TIMER], 1);
-        check("its next value", vmread(VmcsGuest32_VMX_PREEMPTION_TIMER_VALUE), 1000000);
+        check_timer();
         break;
     default:
         check("the guest's last word", done, DONE_PLAIN);

@@ -182,9 +182,10 @@ extern "C" {
  *   the four entries that CR3 points to in the guest's memory [pae, pae-kept, pae-no-pdptes].
  * - The core tests no value that a guest moves to CR0 or CR4: what a processor would refuse by vector 13 makes the next entry fail, or is dropped
  *   [pg-without-pe, cr4-reserved].
- * - IDT-vectoring information (0x4408) with bit 31 names an event whose delivery the exit ended. What came of the guest's instruction comes again by itself
- *   [delivery-own, delivery-int, delivery-int3]. An interrupt, an NMI and what the entry put in are queued again, with the code of 0x440A where bit 11 is set, and
- *   then stand last; with vectors 1, 3 and 4 RIP goes on by the exit's instruction length [delivery, delivery-lost, delivery-code, delivery-breakpoint].
+ * - IDT-vectoring information (0x4408) with bit 31 names an event whose delivery the exit ended. What came of the guest's instruction comes again by itself,
+ *   but for a debug trap, which no probe has [delivery-own, delivery-int, delivery-int3]. An interrupt, an NMI and what the entry put in are queued again, with
+ *   the code of 0x440A where bit 11 is set, and then stand last; with vectors 1, 3 and 4 RIP goes on by the exit's instruction length
+ *   [delivery, delivery-lost, delivery-code, delivery-breakpoint].
  * - Reason 0 with type 2 in 0x4404 is the machine's NMI, and is Halt: the host runs its handler (no probe). INVEPT after a change of EPT tables in use is the host's.
  * - vcpu_get_cpu_mode and vcpu_gla2gva tell the guest's mode if they are given the guest's EFER (0x2806) in place of the host's [main, host-efer].
  *

@@ -241,7 +241,7 @@ static int last(const uint64_t *answer, uint32_t reason)
 {
     switch (answer[0]) {
     case VCPU_ANSWER_SYSTEM_DOWN:
-        return ending("ok");
+        return finished();
     case VCPU_ANSWER_HALT:
         return halted(reason);
     case VCPU_ANSWER_FAIL_ENTRY:
@@ -251,7 +251,7 @@ static int last(const uint64_t *answer, uint32_t reason)
     }
 }
 
-/* 1 where the guest is to run no further. */
+/* 0 where the guest is to run on. */
 int act(const uint64_t *answer, uint32_t reason)
 {
     switch (answer[0]) {

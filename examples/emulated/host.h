@@ -142,7 +142,7 @@ void make_session(uint64_t guest);
 /* Not the host's: every memory type is write-back. */
 #define GUEST_PAT 0x0606060606060606
 
-/* enter.S, entry.c, exit.c, answer.c: one round. Each int is 1 where the guest is to run no further. */
+/* enter.S, entry.c, exit.c, answer.c: one round. enter, leave and act answer 0 where the guest is to run on. */
 struct guest_area {
     uint64_t regs[16], host_rsp, pad;
     uint8_t guest_fx[512], host_fx[512];
@@ -171,6 +171,7 @@ void check(const char *what, uint64_t is, uint64_t should);
 void check_mode(uint64_t mode, uint64_t levels);
 void check_entry(void);
 int ending(const char *format, ...);
+int finished(void);
 void repaired(const char *how);
 void conclude(void);
 

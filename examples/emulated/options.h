@@ -5,30 +5,30 @@
 #ifndef OPTIONS_H
 #define OPTIONS_H
 
-#define OPTIONS(O)                                                                           \
-    O(VERBOSE)                /* print each exit and each check */                           \
-    O(DIRTY_REGION)           /* start from a VMCS region that is not zero */                \
-    O(NO_EVENT_FIELD)         /* do not write 0x4016 after setup */                          \
-    O(NO_PAGE_FAULT_WORDS)    /* do not write 0x4006 and 0x4008 after setup */               \
-    O(NO_XSS_BITMAP)          /* do not write 0x202C after setup */                          \
-    O(ZERO_SYSENTER)          /* leave the host's SYSENTER fields as setup wrote them */     \
-    O(KEEP_EPT_FLAGS)         /* leave bit 6 of the EPT pointer as setup wrote it */         \
-    O(FIELDS_AGAIN)           /* write the 93 fields of setup before every entry */          \
-    O(RECORD_ENTRY_CONTROLS)  /* write 0x4012 as the record has it, at every reason 28 */    \
-    O(CHANGED_ENTRY_CONTROLS) /* write 0x4012 as the record has it, where it changed */      \
-    O(KEEP_LMA)               /* leave EFER.LMA as the core does */                          \
-    O(NO_PDPTES)              /* do not load the page-directory pointers */                  \
-    O(CORE_RESUME)            /* VMRESUME wherever vcpu_entry answers so */                  \
+#define OPTIONS(O)                                                                            \
+    O(VERBOSE)                /* print each exit and each check */                            \
+    O(DIRTY_REGION)           /* start from a VMCS region that is not zero */                 \
+    O(NO_EVENT_FIELD)         /* do not write 0x4016 after setup */                           \
+    O(NO_PAGE_FAULT_WORDS)    /* do not write 0x4006 and 0x4008 after setup */                \
+    O(NO_XSS_BITMAP)          /* do not write 0x202C after setup */                           \
+    O(ZERO_SYSENTER)          /* leave the host's SYSENTER fields as setup wrote them */      \
+    O(KEEP_EPT_FLAGS)         /* leave bit 6 of the EPT pointer as setup wrote it */          \
+    O(FIELDS_AGAIN)           /* write the 93 fields of setup before every entry */           \
+    O(RECORD_ENTRY_CONTROLS)  /* write 0x4012 as the record has it, at every reason 28 */     \
+    O(CHANGED_ENTRY_CONTROLS) /* write 0x4012 as the record has it, where it changed */       \
+    O(KEEP_LMA)               /* leave EFER.LMA as the core does */                           \
+    O(NO_PDPTES)              /* do not load the page-directory pointers */                   \
+    O(CORE_RESUME)            /* VMRESUME wherever vcpu_entry answers so */                   \
     O(NOT_COPIED)             /* give another VMCS what setup wrote, and not the old one's */ \
-    O(QUEUE_FAULT)            /* queue a fault of the guest's present instruction */         \
-    O(NMI_AT_ONCE)            /* queue an NMI while STI or MOV SS blocks */                  \
-    O(HOST_CD)                /* run with CD set in the host's CR0 */                        \
-    O(LOSE_VECTORING)         /* do not queue what IDT-vectoring information names */        \
-    O(KEEP_BLOCKING)          /* leave blocking by STI and MOV SS at a completed exit */     \
-    O(REPORT_NMI_BLOCKING)    /* leave blocking by NMI in the report */                      \
-    O(KEEP_CODE)              /* leave an error code to a guest in real mode */              \
-    O(EXIT_LENGTH)            /* leave the length of INT1, INT3 and INTO as the core does */ \
-    O(HOST_EFER)              /* read the CPU mode with the host's EFER */                  \
+    O(QUEUE_FAULT)            /* queue a fault of the guest's present instruction */          \
+    O(NMI_AT_ONCE)            /* queue an NMI while STI or MOV SS blocks */                   \
+    O(HOST_CD)                /* run with CD set in the host's CR0 */                         \
+    O(LOSE_VECTORING)         /* do not queue what IDT-vectoring information names */         \
+    O(KEEP_BLOCKING)          /* leave blocking by STI and MOV SS at a completed exit */      \
+    O(REPORT_NMI_BLOCKING)    /* leave blocking by NMI in the report */                       \
+    O(KEEP_CODE)              /* leave an error code to a guest in real mode */               \
+    O(EXIT_LENGTH)            /* leave the length of INT1, INT3 and INTO as the core does */  \
+    O(HOST_EFER)              /* read the CPU mode with the host's EFER */                    \
     O(QUEUE_FIRST)            /* queue vector 3 before the first entry */
 
 #define OPTION(name) name,

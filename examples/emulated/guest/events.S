@@ -23,7 +23,21 @@
     hypercall CALL_QUEUE 0x0D 1 0x18
     finish  DONE_PLAIN
 
-    begin   breakpoint                  # goes in where RIP is past VMCALL, whose length the last exit had
+    .macro  returns_to_next number      # 0xEE in the log where the handler does not return right behind VMCALL
+    vector  \number h03
+    hypercall CALL_QUEUE \number
+1:  nop
+    nop
+    nop
+    nop
+    cmpl    $1b, SAW(SAW_RETURN)
+    je      2f
+    note    0xEE
+2:
+    .endm
+    begin   breakpoint                  # INT1, INTO and INT3 go in where RIP is past VMCALL, whose length the last exit had
+    returns_to_next 1
+    returns_to_next 4
     hypercall CALL_QUEUE 3
 1:  nop
     nop
@@ -100,12 +114,6 @@ first_breakpoint:                       # the host has queued vector 3 before th
     vmcall
     finish  DONE_PLAIN
 
-    .macro  round number, instruction:vararg
-    sti
-    \instruction
-    cli
-    note    \number
-    .endm
     begin   nmi_shadow                  # an NMI at an exit in the shadow of MOV SS whose instruction is yet to be done
     hypercall CALL_AT_NEXT 2
     xor     %edx, %edx
@@ -116,6 +124,12 @@ first_breakpoint:                       # the host has queued vector 3 before th
     note    0xF1
     finish  DONE_PLAIN
 
+    .macro  round number, instruction:vararg
+    sti
+    \instruction
+    cli
+    note    \number
+    .endm
     begin   sti_exits                   # instructions that exit, right after STI: without a host the interrupt comes after each
     hypercall CALL_QUEUE 0x20
     mov     $0x40000000, %eax

@@ -3,17 +3,17 @@
 #define GUEST_H
 
 /* Hypercalls: the number in RAX, arguments in RDI, RSI, RDX, RCX, R8, R9. */
-#define CALL_HERE 0x10      /* an exit, and nothing else */
-#define CALL_ARGUMENTS 0x11 /* the host compares the arguments with 1 to 4 and the two words below */
-#define CALL_QUEUE 0x12     /* queue an event: vector, whether it has a code, the code */
-#define CALL_TIMER 0x13     /* let the host's timer tick soon; the host then queues vector 0x22 */
-#define CALL_MODE 0x14      /* compare the core's readings: CPU mode, levels of paging */
-#define CALL_SOME 0x15      /* queue some interrupts, or let the timer tick, or neither, at random */
-#define CALL_WAITING 0x16   /* how many events wait? (RAX) */
-#define CALL_MOVE 0x17      /* clear the VMCS and load it again, as for another processor */
+#define CALL_HERE 0x10       /* an exit, and nothing else */
+#define CALL_ARGUMENTS 0x11  /* the host compares the arguments with 1 to 4 and the two words below */
+#define CALL_QUEUE 0x12      /* queue an event: vector, whether it has a code, the code */
+#define CALL_TIMER 0x13      /* let the host's timer tick soon; the host then queues vector 0x22 */
+#define CALL_MODE 0x14       /* compare the core's readings: CPU mode, levels of paging */
+#define CALL_SOME 0x15       /* queue some interrupts, or let the timer tick, or neither, at random */
+#define CALL_WAITING 0x16    /* how many events wait? (RAX) */
+#define CALL_MOVE 0x17       /* clear the VMCS and load it again, as for another processor */
 #define CALL_PREEMPTION 0x18 /* activate the VMX-preemption timer */
-#define CALL_AT_NEXT 0x19   /* queue this vector at the next exit that completes nothing */
-#define CALL_ANOTHER 0x1A   /* go on with another VMCS */
+#define CALL_AT_NEXT 0x19    /* queue this vector at the next exit that completes nothing */
+#define CALL_ANOTHER 0x1A    /* go on with another VMCS */
 #define ARGUMENT_R8 0x1122334455667788
 #define ARGUMENT_R9 0x99AABBCCDDEEFF00
 
@@ -36,7 +36,7 @@
 #define PDPTES 0x14000
 #define PD_PAE 0x15000
 
-/* What the main run saw. */
+/* What the guests saw, most of it in the main run. */
 #define SAW_CR0 0
 #define SAW_CR4 1
 #define SAW_CPUID_1 2 /* EAX, EBX, ECX, EDX */
@@ -59,9 +59,9 @@
 #define SAW_CODE_13 28
 #define SAW_CR2 29
 #define SAW_SHADOW 30    /* what the handler found in HOLE */
-#define SAW_CPUID_4 36   /* EAX of subleaf 1 */
 #define SAW_REGISTERS 31 /* 1: all stayed over an exit, and CPUID gave its four */
 #define SAW_PAE 32       /* one word by four page-directory pointers */
+#define SAW_CPUID_4 36   /* EAX of subleaf 1 */
 
 /* The last word: which checks the host makes, in a guest that came to its end. */
 #define DONE 0x67FC

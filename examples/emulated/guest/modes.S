@@ -1,8 +1,7 @@
 # Paging and long mode. The host owns CD, NW and NE of CR0 and VMXE of CR4: a move that changes one of them from what the guest reads exits, another does
 # not. After setup the guest reads CD and NW set.
-    .set    PE_NE, 0x31                 # PE, ET, NE: changes CD, NW and NE
-    .set    PG_EXIT, 0x80000031
-    .set    PG_NO_EXIT, 0xE0000011
+    .set    PG_EXIT, 0x80000031         # PG, NE, ET, PE: changes CD, NW and NE
+    .set    PG_NO_EXIT, 0xE0000011      # PG, CD, NW, ET, PE
 
     .macro  far selector, target
     ljmpl   $\selector, $\target

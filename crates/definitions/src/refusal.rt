@@ -56,7 +56,7 @@ impl Refusal {
     // A control-register access other than a move to CR0 or CR4.
     pub const CR_ACCESS: u32 = 18;
 
-    // XSETBV of XCR0.
+    // XSETBV of a value that XCR0 may not have.
     pub const XCR0: u32 = 19;
 
     // XSETBV of another register than XCR0.

@@ -5,7 +5,7 @@ use Prim.Native.Nat.{ℕ}
 
 -- how many bytes each part has
 abbrev pub sizes : List ℕ
-sizes = 1 ∷ 1 ∷ 4 ∷ 4 ∷ 128 ∷ 34 ∷ 200 ∷ 328 ∷ 368 ∷ 1 ∷ 64 ∷ 8 ∷ 256 ∷ 40 ∷ 16 ∷ 16 ∷ []
+sizes = 1 ∷ 1 ∷ 4 ∷ 4 ∷ 128 ∷ 34 ∷ 200 ∷ 328 ∷ 368 ∷ 1 ∷ 64 ∷ 8 ∷ 256 ∷ 40 ∷ 16 ∷ 16 ∷ 8 ∷ 8 ∷ []
 
 abbrev pub PHASE : ℕ
 PHASE = 0
@@ -54,3 +54,9 @@ CR0 = 14
 
 abbrev pub CR4 : ℕ
 CR4 = 15
+
+abbrev pub XCR0 : ℕ
+XCR0 = 16
+
+abbrev pub SUPPORTED : ℕ
+SUPPORTED = 17

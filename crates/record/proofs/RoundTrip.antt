@@ -53,6 +53,8 @@ module _ (s : Session) (f : Fitting s) where
       ∷ run pair 5 .sized (s .capabilities .pairs) (f .capabilities .pairs) i
       ∷ fixed .sized (s .capabilities .cr0) (f .capabilities .cr0) i
       ∷ fixed .sized (s .capabilities .cr4) (f .capabilities .cr4) i
+      ∷ number 8 .sized (s .xcr0 .value) (f .xcr0 .value) i
+      ∷ number 8 .sized (s .xcr0 .supported) (f .xcr0 .supported) i
       ∷ []
 
   -- what stands from part k on
@@ -95,6 +97,8 @@ module _ (s : Session) (f : Fitting s) where
       let pairs = part-read (run pair 5) (s .capabilities .pairs) _ _ (f .capabilities .pairs) (from Part.PAIRS) in
       let cr0 = part-read fixed (s .capabilities .cr0) _ _ (f .capabilities .cr0) (from Part.CR0) in
       let cr4 = part-read fixed (s .capabilities .cr4) _ _ (f .capabilities .cr4) (from Part.CR4) in
+      let value = part-read (number 8) (s .xcr0 .value) _ _ (f .xcr0 .value) (from Part.XCR0) in
+      let supported = part-read (number 8) (s .xcr0 .supported) _ _ (f .xcr0 .supported) (from Part.SUPPORTED) in
       λ i.
       record {
         progress = record { phase = phase i; launched = launched i; entries = entries i; held = held i };
@@ -102,6 +106,7 @@ module _ (s : Session) (f : Fitting s) where
         vmcs = record { w16 = w16 i; w32 = w32 i; w64 = w64 i; natural = natural i };
         queue = record { waiting = waiting i; vectors = vectors i; coded = coded i; codes = codes i };
         capabilities = record { pairs = pairs i; cr0 = cr0 i; cr4 = cr4 i };
+        xcr0 = record { value = value i; supported = supported i };
       }
 
   pub lawful-accepted : Lawful s → acceptedOf (encodeOf s) ≡ true
@@ -164,6 +169,7 @@ module _ (b : List ℕ) (whole : length b ≡ Record.LENGTH) (bytes : Below 256 
           cr0 = part-fits fixed Record.CR0 (lit≤ tt);
           cr4 = part-fits fixed Record.CR4 (lit≤ tt);
         };
+        xcr0 = record { value = part-fits (number 8) Record.XCR0 (lit≤ tt); supported = part-fits (number 8) Record.SUPPORTED (lit≤ tt) };
       }
 
   pub record-written : acceptedOf b ≡ true → encodeOf (sessionOf b) ≡ b
@@ -188,6 +194,8 @@ module _ (b : List ℕ) (whole : length b ≡ Record.LENGTH) (bytes : Below 256 
       ∷ part-written (run pair 5) Record.PAIRS (lit≤ tt) tt i
       ∷ part-written fixed Record.CR0 (lit≤ tt) tt i
       ∷ part-written fixed Record.CR4 (lit≤ tt) tt i
+      ∷ part-written (number 8) Record.XCR0 (lit≤ tt) tt i
+      ∷ part-written (number 8) Record.SUPPORTED (lit≤ tt) tt i
       ∷ [] in
       ap flatten parts ∙ joined 0 sizes b ∙ take-all Record.LENGTH b (omega arith)
 

@@ -14,6 +14,7 @@ use Rattle.vcpu_session.specs.declared.Progress.{Progress}
 use Rattle.vcpu_session.specs.declared.Queue.{Queue}
 use Rattle.vcpu_session.specs.declared.Fixed.{Fixed}
 use Rattle.vcpu_session.specs.declared.Capabilities.{Capabilities}
+use Rattle.vcpu_session.specs.declared.Xcr0.{Xcr0}
 use Rattle.vcpu_session.specs.declared.Session.{Session}
 use Rattle.vcpu_session.specs.Session.{newSession, withVmcs}
 use Rattle.record.specs.declared.Decoded.{Decoded}
@@ -63,6 +64,7 @@ sessionOf b =
         cr0 = fixedOf (drop Record.CR0 b);
         cr4 = fixedOf (drop Record.CR4 b);
       };
+      xcr0 = record { value = littleEndian 8 (drop Record.XCR0 b); supported = littleEndian 8 (drop Record.SUPPORTED b) };
     }
 
 -- a session with x in a field of its VMCS
@@ -86,10 +88,13 @@ queueParts q = bytesOf 1 (q .waiting) ∷ numberBytes 1 (q .vectors) ∷ bytesOf
 abbrev pub capabilityParts : Capabilities → List (List ℕ)
 capabilityParts c = flatMap pairBytes (c .pairs) ∷ fixedBytes (c .cr0) ∷ fixedBytes (c .cr4) ∷ []
 
+abbrev pub xcr0Parts : Xcr0 → List (List ℕ)
+xcr0Parts x = bytesOf 8 (x .value) ∷ bytesOf 8 (x .supported) ∷ []
+
 abbrev pub partsOf : Session → List (List ℕ)
 partsOf s =
     progressParts (s .progress)
-    ++ (regParts (s .regs) ++ (vmcsParts (s .vmcs) ++ (queueParts (s .queue) ++ capabilityParts (s .capabilities))))
+    ++ (regParts (s .regs) ++ (vmcsParts (s .vmcs) ++ (queueParts (s .queue) ++ (capabilityParts (s .capabilities) ++ xcr0Parts (s .xcr0)))))
 
 unfoldable pub encodeOf : Session → List ℕ
 encodeOf s = flatten (partsOf s)

@@ -7,6 +7,7 @@ use Rattle.vcpu_session.specs.declared.Progress.{Progress}
 use Rattle.vcpu_session.specs.declared.Queue.{Queue}
 use Rattle.vcpu_session.specs.declared.Fixed.{Fixed}
 use Rattle.vcpu_session.specs.declared.Capabilities.{Capabilities}
+use Rattle.vcpu_session.specs.declared.Xcr0.{Xcr0}
 use Rattle.vcpu_session.specs.declared.Session.{Session}
 use Rattle.record.specs.Runs.{Run, Takes, Numbers}
 
@@ -38,9 +39,14 @@ pub record CapabilitiesFit (c : Capabilities) : Type 0 where
   pub cr0 : FixedFits (c .cr0)
   pub cr4 : FixedFits (c .cr4)
 
+pub record Xcr0Fits (x : Xcr0) : Type 0 where
+  pub value : Takes 8 (x .value)
+  pub supported : Takes 8 (x .supported)
+
 pub record Fitting (s : Session) : Type 0 where
   pub progress : ProgressFits (s .progress)
   pub regs : Numbers 16 8 (listOf (s .regs))
   pub vmcs : VmcsFits (s .vmcs)
   pub queue : QueueFits (s .queue)
   pub capabilities : CapabilitiesFit (s .capabilities)
+  pub xcr0 : Xcr0Fits (s .xcr0)

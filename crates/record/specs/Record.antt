@@ -3,7 +3,7 @@
 use Prim.Native.Nat.{ℕ}
 
 abbrev pub LENGTH : ℕ
-LENGTH = 1469
+LENGTH = 1485
 
 -- ---- where the session stands: the phase (1 byte), whether it was launched (1), its entries (4), those that held an event (4)
 
@@ -62,3 +62,11 @@ CR0 = 1437
 
 abbrev pub CR4 : ℕ
 CR4 = 1453
+
+-- ---- XCR0 (8), and the bits of it that the host supports (8)
+
+abbrev pub XCR0 : ℕ
+XCR0 = 1469
+
+abbrev pub SUPPORTED : ℕ
+SUPPORTED = 1477

@@ -7,10 +7,10 @@ ghost use lib.Seq.{sets};
 ghost use Rattle.regs.specs.Registers.{listOf};
 ghost use Rattle.vmcs.specs.Field.{Word16, Word32, Word64, Natural, valueOf};
 ghost use Rattle.vmcs.specs.Fields.{fieldAt};
-ghost use Rattle.record.specs.Record.{LENGTH, PHASE, LAUNCHED, ENTRIES, HELD, REGS, W16, W32, W64, NATURAL, WAITING, VECTORS, CODED, CODES, PAIRS, CR0, CR4};
+ghost use Rattle.record.specs.Record.{LENGTH, PHASE, LAUNCHED, ENTRIES, HELD, REGS, W16, W32, W64, NATURAL, WAITING, VECTORS, CODED, CODES, PAIRS, CR0, CR4, XCR0, SUPPORTED};
 ghost use Rattle.record.specs.Runs.{storedAt, All, Numbers};
-ghost use Rattle.record.specs.Codec.{pairOf, pairBytes, fixedOf, fixedBytes, sessionOf, progressParts, regParts, vmcsParts, queueParts, capabilityParts, encodeOf, acceptedOf, decodeOf, encoded, encodedOf};
-ghost use Rattle.record.specs.Fitting.{ProgressFits, VmcsFits, QueueFits, PairFits, FixedFits, CapabilitiesFit, Fitting};
+ghost use Rattle.record.specs.Codec.{pairOf, pairBytes, fixedOf, fixedBytes, sessionOf, progressParts, regParts, vmcsParts, queueParts, capabilityParts, xcr0Parts, encodeOf, acceptedOf, decodeOf, encoded, encodedOf};
+ghost use Rattle.record.specs.Fitting.{ProgressFits, VmcsFits, QueueFits, PairFits, FixedFits, CapabilitiesFit, Xcr0Fits, Fitting};
 
 pub mod words;
 
@@ -21,6 +21,7 @@ use vcpu_session::Fixed;
 use vcpu_session::Progress;
 use vcpu_session::Queue;
 use vcpu_session::Session;
+use vcpu_session::Xcr0;
 use vmcs::Vmcs;
 use vmcs::controls::Pair;
 
@@ -28,7 +29,7 @@ use vmcs::controls::Pair;
 pub struct Record {}
 
 impl Record {
-    pub const LENGTH: usize = 1469;
+    pub const LENGTH: usize = 1485;
 
     // 1 byte, 0 to 4.
     pub const PHASE: usize = 0;
@@ -77,6 +78,11 @@ impl Record {
 
     // Fixed-0 and fixed-1 of CR4, 8 bytes each.
     pub const CR4: usize = 1453;
+
+    // XCR0, and the bits of it that the host supports: 8 bytes each.
+    pub const XCR0: usize = 1469;
+
+    pub const SUPPORTED: usize = 1477;
 }
 
 // The session of a record, or a new one beside the number of the refusal.
@@ -234,6 +240,16 @@ fn capabilities_at(b: &[u8]) -> Capabilities
     }
 }
 
+pub fn xcr0_at(b: &[u8]) -> Xcr0
+    requires { ⌜ length (now b) ≡ LENGTH ⌝ }
+    ensures { λ r. ⌜ r ≡ sessionOf (now (b .entry)) .xcr0 ⌝ }
+{
+    Xcr0 {
+        value: words::get8(b, Record::XCR0),
+        supported: words::get8(b, Record::SUPPORTED),
+    }
+}
+
 pub fn session_at(b: &[u8]) -> Session
     requires { ⌜ length (now b) ≡ LENGTH ⌝ }
     ensures { λ r. ⌜ r ≡ sessionOf (now (b .entry)) ⌝ }
@@ -244,6 +260,7 @@ pub fn session_at(b: &[u8]) -> Session
         vmcs: vmcs_at(b),
         queue: queue_at(b),
         capabilities: capabilities_at(b),
+        xcr0: xcr0_at(b),
     }
 }
 
@@ -413,6 +430,15 @@ fn put_capabilities(b: &mut [u8], c: Capabilities)
     put_fixed(b, Record::CR4, c.cr4);
 }
 
+fn put_xcr0(b: &mut [u8], x: Xcr0)
+    requires { ⌜ length (now b) ≡ LENGTH ⌝ }
+    ensures { λ _. ⌜ now (b .exit) ≡ storedAt (XCR0 ∷ SUPPORTED ∷ []) (xcr0Parts x) (now (b .entry)) ⌝ }
+    ensures { λ _. ⌜ Xcr0Fits x ⌝ }
+{
+    words::put8(b, Record::XCR0, x.value);
+    words::put8(b, Record::SUPPORTED, x.supported);
+}
+
 pub fn put_session(b: &mut [u8], s: Session)
     requires { ⌜ length (now b) ≡ LENGTH ⌝ }
     ensures { λ _. ⌜ now (b .exit) ≡ encodeOf s ⌝ }
@@ -423,6 +449,7 @@ pub fn put_session(b: &mut [u8], s: Session)
     put_vmcs(b, s.vmcs);
     put_queue(b, s.queue);
     put_capabilities(b, s.capabilities);
+    put_xcr0(b, s.xcr0);
 }
 
 // Refusal 2: the length is wrong. The bytes are then as they were.

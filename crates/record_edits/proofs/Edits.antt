@@ -16,7 +16,7 @@ use Rattle.bits.proofs.LittleEndianLaws.{length-bytesOf}
 use Rattle.regs.specs.Registers.{listOf, withReg}
 use Rattle.regs.specs.declared.GeneralRegisters.{GeneralRegisters}
 use Rattle.vmcs.specs.Field.{Field, Word16, Word64, Word32, Natural, placeOf, sizeOf, widthBits}
-use Rattle.vcpu_session.specs.Session.{Lawful, withProgress, withRegs, withQueue, inPhase}
+use Rattle.vcpu_session.specs.Session.{Lawful, withProgress, withRegs, withQueue, withXcr0, inPhase, withValue}
 use Rattle.vcpu_session.specs.declared.Progress.{Progress}
 use Rattle.vcpu_session.specs.declared.Queue.{Queue}
 use Rattle.vcpu_session.specs.declared.Session.{Session}
@@ -29,7 +29,7 @@ use Rattle.record.specs.Codec.{sessionOf, withField, encodeOf, acceptedOf}
 use Rattle.record.specs.Fitting.{ProgressFits, Fitting}
 use Rattle.record.proofs.Flags.{length-flagBytes}
 use Rattle.record.proofs.Accepted.{whole}
-use Rattle.record.proofs.FittingLaws.{progress-fits, regs-fits, vmcs-fits, queue-fits, in-phase-fits}
+use Rattle.record.proofs.FittingLaws.{progress-fits, regs-fits, vmcs-fits, queue-fits, xcr0-fits, in-phase-fits}
 use Rattle.record.proofs.PartNames as Part
 use Rattle.record.proofs.RoundTrip.{lawful-accepted, session-read, session-fits, session-lawful, record-written}
 use Rattle.record_edits.specs.Holds.{Holds}
@@ -216,6 +216,15 @@ module _ {b : List ℕ} {s : Session} (h : Spells b s) where
         bytes = run-shifted h Part.CODES (lit< tt) (number 4) (s .queue .codes) refl n 0 (rw (h .fits .queue .codes .sized) few) e;
       }
 
+  -- XCR0
+  with-xcr0 : {after : List ℕ} (x : ℕ) → Takes 8 x → after ≡ sets b Record.XCR0 (bytesOf 8 x) → Spells after (withXcr0 s (withValue (s .xcr0) x))
+  unfolding encodeOf
+  with-xcr0 x small e =
+      record {
+        fits = xcr0-fits (h .fits) (record { value = small; supported = h .fits .xcr0 .supported });
+        bytes = value-put h Part.XCR0 (lit< tt) (number 8) (s .xcr0 .value) x refl e;
+      }
+
 -- ---- an accepted record, after one edit or several
 
 -- `known` is what owning a slice of bytes tells
@@ -241,6 +250,9 @@ module _ (b : List ℕ) (ok : acceptedOf b ≡ true) (known : (i : ℕ) → Fits
 
   pub phase-held : {after : List ℕ} (x : ℕ) → x ≤ 4 → after ≡ sets b Record.PHASE (bytesOf 1 x) → Holds after (withProgress (sessionOf b) (inPhase (sessionOf b .progress) x))
   phase-held x h e = held (with-phase own x (omega arith) e) (lawful-phase lawful x h)
+
+  pub xcr0-held : {after : List ℕ} (x : ℕ) → x < 2 ^ 64 → after ≡ sets b Record.XCR0 (bytesOf 8 x) → Holds after (withXcr0 (sessionOf b) (withValue (sessionOf b .xcr0) x))
+  xcr0-held x small e = held (with-xcr0 own x small e) (lawful-alike lawful refl)
 
   pub progress-held : {b₁ b₂ b₃ b₄ : List ℕ} (p : Progress) → ProgressFits p → p .phase ≤ 4 → p .held ≤ p .entries
       → b₁ ≡ sets b Record.PHASE (bytesOf 1 (p .phase)) → b₂ ≡ sets b₁ Record.LAUNCHED (flagBytes (p .launched))

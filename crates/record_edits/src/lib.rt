@@ -7,7 +7,7 @@ ghost use lib.Seq.{sets};
 ghost use Rattle.regs.specs.Registers.{withReg};
 ghost use Rattle.vmcs.specs.Field.{Word16, Word32, Word64, Natural, widthBits};
 ghost use Rattle.vmcs.specs.Fields.{fieldAt};
-ghost use Rattle.vcpu_session.specs.Session.{withProgress, withRegs, withQueue, inPhase};
+ghost use Rattle.vcpu_session.specs.Session.{withProgress, withRegs, withQueue, withXcr0, inPhase, withValue};
 ghost use Rattle.vcpu_events.specs.Queue.{pushed, popped};
 ghost use Rattle.record.specs.Codec.{sessionOf, acceptedOf, withField};
 ghost use Rattle.record_edits.specs.Holds.{Holds};
@@ -101,6 +101,15 @@ pub fn put_field(b: &mut [u8], place: usize, value: u64)
         return;
     }
     put_natural(b, place - 108, value);
+}
+
+// ---- XCR0. The supported bits stay.
+
+pub fn put_xcr0(b: &mut [u8], value: u64)
+    requires { ⌜ acceptedOf (now b) ≡ true ⌝ }
+    ensures { λ _. ⌜ Holds (now (b .exit)) (withXcr0 (sessionOf (now (b .entry))) (withValue (sessionOf (now (b .entry)) .xcr0) value)) ⌝ }
+{
+    words::put8(b, Record::XCR0, value);
 }
 
 // ---- The queue of events.

@@ -59,12 +59,19 @@ pub struct Capabilities {
     pub cr4: Fixed,
 }
 
+// The guest's XCR0, and the bits of it that the host supports, kept from setup.
+pub struct Xcr0 {
+    pub value: u64,
+    pub supported: u64,
+}
+
 pub struct Session {
     pub progress: Progress,
     pub regs: GeneralRegisters,
     pub vmcs: Vmcs,
     pub queue: Queue,
     pub capabilities: Capabilities,
+    pub xcr0: Xcr0,
 }
 
 // A new session: fresh, and all zero.
@@ -104,6 +111,10 @@ pub fn new() -> Session
             pairs: [no_pair; 5],
             cr0: no_fixed,
             cr4: no_fixed,
+        },
+        xcr0: Xcr0 {
+            value: 0,
+            supported: 0,
         },
     }
 }

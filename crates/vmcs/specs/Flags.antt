@@ -2,6 +2,7 @@
 pub mod Cr0Flags
 pub mod Cr4Flags
 pub mod EferFlags
+pub mod XCr0Flags
 pub mod RFlags
 pub mod PinbasedControls
 pub mod PrimaryControls

@@ -50,6 +50,33 @@ impl EferFlags {
     pub const TRANSLATION_CACHE_EXTENSION: u64 = 15;
 }
 
+pub struct XCr0Flags {}
+
+impl XCr0Flags {
+    pub const X87: u64 = 0;
+
+    pub const SSE: u64 = 1;
+
+    pub const AVX: u64 = 2;
+
+    // MPX: the bound registers, and BNDCFGU and BNDSTATUS.
+    pub const BNDREG: u64 = 3;
+
+    pub const BNDCSR: u64 = 4;
+
+    // AVX-512: k0 to k7, the upper halves of ZMM0 to ZMM15, and ZMM16 to ZMM31.
+    pub const OPMASK: u64 = 5;
+
+    pub const ZMM_HI256: u64 = 6;
+
+    pub const HI16_ZMM: u64 = 7;
+
+    // AMX: the configuration of the tiles, and the tiles.
+    pub const TILECFG: u64 = 17;
+
+    pub const TILEDATA: u64 = 18;
+}
+
 pub struct RFlags {}
 
 impl RFlags {

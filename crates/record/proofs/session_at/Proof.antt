@@ -14,4 +14,5 @@ session-at-spec =
     (λ c κs. search needs)
     (λ c κs. search needs)
     (λ c κs. search needs)
-    (λ c. rw (c .before .before .before .before .progress-at .ensures, c .before .before .before .regs-at .ensures, c .before .before .vmcs-at .ensures, c .before .queue-at .ensures, c .capabilities-at .ensures)))
+    (λ c κs. search needs)
+    (λ c. rw (c .before .before .before .before .before .progress-at .ensures, c .before .before .before .before .regs-at .ensures, c .before .before .before .vmcs-at .ensures, c .before .before .queue-at .ensures, c .before .capabilities-at .ensures, c .xcr0-at .ensures)))

@@ -79,6 +79,7 @@ argumentsOf b =
       pat = littleEndian 8 (drop Layout.GUEST_PAT b);
       addresses = addressesOf b;
       msrs = msrsOf b;
+      xcr0supported = littleEndian 8 (drop Layout.XCR0_SUPPORTED b);
       features = featuresOf b;
     }
 

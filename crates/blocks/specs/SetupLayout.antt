@@ -2,7 +2,7 @@
 use Prim.Native.Nat.{ℕ}
 
 abbrev pub LENGTH : ℕ
-LENGTH = 257
+LENGTH = 265
 
 -- the host's state, in the order of setup_vmcs_host: numbers of 8 bytes, selectors of 2
 abbrev pub HOST_PAT : ℕ
@@ -119,12 +119,16 @@ TRUE_EXIT_CTLS = 238
 abbrev pub TRUE_ENTRY_CTLS : ℕ
 TRUE_ENTRY_CTLS = 246
 
+-- the bits of XCR0 that the host supports: 8 bytes
+abbrev pub XCR0_SUPPORTED : ℕ
+XCR0_SUPPORTED = 254
+
 -- yes/no bytes: what CPUID offers the guest
 abbrev pub RDTSCP : ℕ
-RDTSCP = 254
+RDTSCP = 262
 
 abbrev pub INVPCID : ℕ
-INVPCID = 255
+INVPCID = 263
 
 abbrev pub XSAVES : ℕ
-XSAVES = 256
+XSAVES = 264

@@ -14,7 +14,7 @@ use vcpu_setup::HostWords;
 pub struct Layout {}
 
 impl Layout {
-    pub const LENGTH: usize = 257;
+    pub const LENGTH: usize = 265;
 
     // The host's state, in the order of setup_vmcs_host: numbers of 8 bytes, selectors of 2.
     pub const HOST_PAT: usize = 0;
@@ -94,12 +94,15 @@ impl Layout {
 
     pub const TRUE_ENTRY_CTLS: usize = 246;
 
+    // The bits of XCR0 that the host supports: 8 bytes.
+    pub const XCR0_SUPPORTED: usize = 254;
+
     // Yes/no bytes: what CPUID offers the guest.
-    pub const RDTSCP: usize = 254;
+    pub const RDTSCP: usize = 262;
 
-    pub const INVPCID: usize = 255;
+    pub const INVPCID: usize = 263;
 
-    pub const XSAVES: usize = 256;
+    pub const XSAVES: usize = 264;
 }
 
 // ---- Which bytes are a block.
@@ -199,6 +202,7 @@ pub fn arguments_at(b: &[u8]) -> Arguments
         pat: words::get8(b, Layout::GUEST_PAT),
         addresses: addresses_at(b),
         msrs: msrs_at(b),
+        xcr0supported: words::get8(b, Layout::XCR0_SUPPORTED),
         features: features_at(b),
     }
 }

@@ -6,11 +6,11 @@ ghost use mathlib.Core.Path.{_≡_};
 ghost use mathlib.Core.Bool.{true, false};
 ghost use lib.ListN.{length};
 ghost use Rattle.vmcs.specs.Writes.{applied};
-ghost use Rattle.vcpu_session.specs.Session.{withVmcs};
+ghost use Rattle.vcpu_session.specs.Session.{withVmcs, withXcr0};
 ghost use Rattle.vcpu_exit.specs.Reading.{pastEnd};
 ghost use Rattle.vcpu_exit.specs.Refusal.{entryPair, ownedBitsDiffer, reportRefusal};
 ghost use Rattle.vcpu_report.specs.Handlers.{stored, failureStored, timerSet, cr0Set, cr4Set, eferUpdated, crHandled, handledAs, ripAdvanced, vmcsAfter};
-ghost use Rattle.vcpu_report.specs.ExitReport.{failedEntry, afterExit, accepted};
+ghost use Rattle.vcpu_report.specs.ExitReport.{xcr0After, failedEntry, afterExit, accepted};
 ghost use Rattle.record.specs.Record.{LENGTH};
 ghost use Rattle.record.specs.Codec.{sessionOf, acceptedOf};
 ghost use Rattle.record_edits.specs.Holds.{Holds};
@@ -76,7 +76,8 @@ pub fn report_refusal(b: &[u8], r: Report) -> u32
     }
     let pair = entry_pair_at(b);
     let entry = record::w32_at(b, VmcsControl32::VMENTRY_CONTROLS);
-    vcpu_exit::exit_refusal(pair, entry, r)
+    let xcr0 = record::xcr0_at(b);
+    vcpu_exit::exit_refusal(pair, entry, xcr0.supported, r)
 }
 
 // ---- storing the report
@@ -241,6 +242,18 @@ fn vmcs_after(b: &mut [u8], r: Report)
     advance_rip(b, r);
 }
 
+// XSETBV loads EDX:EAX into XCR0.
+fn handle_xsetbv(b: &mut [u8], r: Report)
+    requires { ⌜ acceptedOf (now b) ≡ true ⌝ }
+    ensures { λ _. ⌜ Holds (now (b .exit)) (withXcr0 (sessionOf (now (b .entry))) (xcr0After (sessionOf (now (b .entry)) .xcr0) r)) ⌝ }
+{
+    if vcpu_exit::reason_of(r) == VmxExitReason::XSETBV {
+        let registers = r.regs;
+        record_edits::put_xcr0(b, vcpu_exit::read_edx_eax(registers));
+        return;
+    }
+}
+
 // ---- the session after a report
 
 // A failed entry ends the session.
@@ -257,6 +270,7 @@ fn after_exit(b: &mut [u8], r: Report)
     ensures { λ _. ⌜ Holds (now (b .exit)) (afterExit (sessionOf (now (b .entry))) r) ⌝ }
 {
     vmcs_after(b, r);
+    handle_xsetbv(b, r);
     record_edits::put_regs(b, vcpu_report::registers_after(r));
     record_edits::put_phase(b, vcpu_report::phase_after(r));
 }

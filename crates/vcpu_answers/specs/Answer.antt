@@ -72,11 +72,11 @@ msrWrite g = cond (isApic (g .rcx)) (ApicWrite (low32 (g .rcx)) (readEdxEax g)) 
 
 -- ---- the answer by the reason (SDM 3D, appendix C)
 
--- interrupt window, CPUID, a move to CR0 or CR4, preemption timer
+-- interrupt window, CPUID, a move to CR0 or CR4, preemption timer, XSETBV
 unfoldable pub isBuiltin : ℕ → Bool
 isBuiltin reason =
     eqb reason VmxExitReason.INTERRUPT_WINDOW || eqb reason VmxExitReason.CPUID || eqb reason VmxExitReason.CR_ACCESS
-    || eqb reason VmxExitReason.PREEMPTION_TIMER
+    || eqb reason VmxExitReason.PREEMPTION_TIMER || eqb reason VmxExitReason.XSETBV
 
 unfoldable pub answerTo : ℕ → Report → AxVCpuExitReason
 answerTo reason r =

@@ -233,6 +233,7 @@ fn is_builtin(reason: u32) -> bool
         | (reason == VmxExitReason::CPUID)
         | (reason == VmxExitReason::CR_ACCESS)
         | (reason == VmxExitReason::PREEMPTION_TIMER)
+        | (reason == VmxExitReason::XSETBV)
 }
 
 fn answer_to(reason: u32, r: Report) -> AxVCpuExitReason

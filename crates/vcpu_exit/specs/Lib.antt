@@ -1,3 +1,4 @@
 -- The definitions that the contracts of `vcpu_exit` cite.
 pub mod Reading
 pub mod Refusal
+pub mod Xcr0

@@ -46,13 +46,14 @@ turnsPagingOn r = eqb (reasonOf r) VmxExitReason.CR_ACCESS && isMoveTo r 0 && bi
 
 -- ---- RIP
 
--- by how much it advances: CPUID 2, a move to CR0 or CR4 3, VMCALL and I/O the low 8 bits of the length, RDMSR and WRMSR of an APIC register 2
+-- by how much it advances: CPUID 2, a move to CR0 or CR4 3, VMCALL and I/O the low 8 bits of the length, RDMSR and WRMSR of an APIC register 2, XSETBV 3
 unfoldable pub advanceTo : ℕ → Report → ℕ
 advanceTo reason r =
     cond (eqb reason VmxExitReason.CPUID) 2
     (cond (eqb reason VmxExitReason.CR_ACCESS) 3
     (cond (eqb reason VmxExitReason.VMCALL || eqb reason VmxExitReason.IO_INSTRUCTION) (r .length % 2 ^ 8)
-    (cond ((eqb reason VmxExitReason.MSR_READ || eqb reason VmxExitReason.MSR_WRITE) && isApic (r .regs .rcx)) 2 0)))
+    (cond ((eqb reason VmxExitReason.MSR_READ || eqb reason VmxExitReason.MSR_WRITE) && isApic (r .regs .rcx)) 2
+    (cond (eqb reason VmxExitReason.XSETBV) 3 0))))
 
 abbrev pub advanceOf : Report → ℕ
 advanceOf r = advanceTo (reasonOf r) r

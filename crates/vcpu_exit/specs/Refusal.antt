@@ -19,7 +19,8 @@ use Rattle.vcpu_session.specs.Phase as Phase
 use Rattle.vcpu_session.specs.Session.{isUnlawful}
 use Rattle.vcpu_session.specs.declared.Capabilities.{Capabilities}
 use Rattle.vcpu_session.specs.declared.Session.{Session}
-use Rattle.vcpu_exit.specs.Reading.{reasonOf, failed, isMoveTo, turnsPagingOn, pastEnd}
+use Rattle.vcpu_exit.specs.Reading.{reasonOf, failed, readEdxEax, isMoveTo, turnsPagingOn, pastEnd}
+use Rattle.vcpu_exit.specs.Xcr0.{xcr0Allowed}
 use Rattle.vcpu_exit.specs.declared.Report.{Report}
 
 -- 14: above 64, or 35, 38 or 42, or failed with a reason other than 33, 34 or 41 (SDM 3D, appendix C; 3C, 27.8)
@@ -55,6 +56,10 @@ otherAccess r = eqb (reasonOf r) VmxExitReason.CR_ACCESS && not (isMoveTo r 0 ||
 unfoldable pub otherXcr : Report → Bool
 otherXcr r = eqb (reasonOf r) VmxExitReason.XSETBV && not (eqb (low32 (r .regs .rcx)) 0)
 
+-- 19: reason 55, and EDX:EAX is no value that XCR0 may have (document 02, N1)
+unfoldable pub refusedXcr0 : ℕ → Report → Bool
+refusedXcr0 supported r = eqb (reasonOf r) VmxExitReason.XSETBV && not (xcr0Allowed supported (readEdxEax (r .regs)))
+
 -- 8: paging is turned on, and entry bit 9 is to be set and is not in allowed-1
 unfoldable pub eferRefusal : Pair → ℕ → Report → ℕ
 eferRefusal pair entry r = cond (turnsPagingOn r) (updateEfer pair (r .efer) entry .refusal) 0
@@ -63,16 +68,22 @@ eferRefusal pair entry r = cond (turnsPagingOn r) (updateEfer pair (r .efer) ent
 abbrev pub entryPair : Capabilities → Pair
 entryPair c = pairAt (c .pairs) 4
 
--- the refusals after 15, which need no session but the entry pair and word. 16, 18, 20: above. 19: XSETBV with ECX 0. 21: an APIC access. 17: RIP is to advance and the sum passes 2^64 - 1. 8: above
-unfoldable pub exitRefusal : Pair → ℕ → Report → ℕ
-exitRefusal pair entry r =
+-- those of one exit reason alone. 16, 18, 20, 19: above. 21: an APIC access
+unfoldable pub reasonRefusal : ℕ → Report → ℕ
+reasonRefusal supported r =
     cond (noInterrupt r) 16
     (cond (otherAccess r) 18
     (cond (otherXcr r) 20
-    (cond (eqb (reasonOf r) VmxExitReason.XSETBV) 19
-    (cond (eqb (reasonOf r) VmxExitReason.APIC_ACCESS) 21
-    (cond (pastEnd r) 17
-    (eferRefusal pair entry r))))))
+    (cond (refusedXcr0 supported r) 19
+    (cond (eqb (reasonOf r) VmxExitReason.APIC_ACCESS) 21 0))))
+
+-- the refusals after 15, which need no session but the entry pair and word, and the supported bits of XCR0. Those of the reason; 17: RIP is to advance and the sum
+-- passes 2^64 - 1; 8: above
+unfoldable pub exitRefusal : Pair → ℕ → ℕ → Report → ℕ
+exitRefusal pair entry supported r =
+    cond (eqb (reasonRefusal supported r) 0)
+    (cond (pastEnd r) 17 (eferRefusal pair entry r))
+    (reasonRefusal supported r)
 
 -- 2: no record holds the session. 1: not running. 14: above, and a failed entry meets nothing more. 15: above. Then those of the exit
 unfoldable pub reportRefusal : Session → Report → ℕ
@@ -82,4 +93,4 @@ reportRefusal s r =
     (cond (unknownReason r) 14
     (cond (failed r) 0
     (cond (ownedBitsDiffer (s .vmcs) r) 15
-    (exitRefusal (entryPair (s .capabilities)) (valueOf (s .vmcs) VmcsControl32.VMENTRY_CONTROLS) r)))))
+    (exitRefusal (entryPair (s .capabilities)) (valueOf (s .vmcs) VmcsControl32.VMENTRY_CONTROLS) (s .xcr0 .supported) r)))))

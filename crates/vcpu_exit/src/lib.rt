@@ -4,7 +4,8 @@
 ghost use mathlib.Core.Path.{_≡_};
 ghost use Prim.Native.Nat.{_<_};
 ghost use Rattle.vcpu_exit.specs.Reading.{reasonOf, failed, isApic, readEdxEax, registerOf, movedValue, isMoveTo, turnsPagingOn, advanceTo, advanceOf, pastEnd};
-ghost use Rattle.vcpu_exit.specs.Refusal.{unknownReason, ownedBitsDiffer, noInterrupt, otherAccess, otherXcr, eferRefusal, exitRefusal, reportRefusal};
+ghost use Rattle.vcpu_exit.specs.Refusal.{unknownReason, ownedBitsDiffer, noInterrupt, otherAccess, otherXcr, refusedXcr0, eferRefusal, reasonRefusal, exitRefusal, reportRefusal};
+ghost use Rattle.vcpu_exit.specs.Xcr0.{xcr0Allowed};
 use definitions::Refusal;
 use definitions::exit_reason::VmxExitReason;
 use regs::GeneralRegisters;
@@ -13,6 +14,7 @@ use vcpu_session::Session;
 use vmcs::Vmcs;
 use vmcs::controls::Pair;
 use vmcs::flags::Cr0Flags;
+use vmcs::flags::XCr0Flags;
 use vmcs::names::VmcsControl32;
 use vmcs::names::VmcsControlNW;
 use vmcs::names::VmcsGuestNW;
@@ -138,6 +140,9 @@ fn advance_to(reason: u32, r: Report) -> u64
     {
         return 2;
     }
+    if reason == VmxExitReason::XSETBV {
+        return 3;
+    }
     0
 }
 
@@ -185,6 +190,41 @@ fn other_xcr(r: Report) -> bool
     (reason_of(r) == VmxExitReason::XSETBV) & (bits::low(r.regs.rcx) != 0)
 }
 
+// A value that XCR0 may have, within the supported bits: the manual's rule, over each bit as 0 or 1.
+fn xcr0_allowed(supported: u64, value: u64) -> bool
+    ensures { λ b. ⌜ b ≡ xcr0Allowed supported value ⌝ }
+{
+    let x87 = (value >> XCr0Flags::X87) % 2;
+    let sse = (value >> XCr0Flags::SSE) % 2;
+    let avx = (value >> XCr0Flags::AVX) % 2;
+    let bndreg = (value >> XCr0Flags::BNDREG) % 2;
+    let bndcsr = (value >> XCr0Flags::BNDCSR) % 2;
+    let opmask = (value >> XCr0Flags::OPMASK) % 2;
+    let zmm_hi256 = (value >> XCr0Flags::ZMM_HI256) % 2;
+    let hi16_zmm = (value >> XCr0Flags::HI16_ZMM) % 2;
+    let tilecfg = (value >> XCr0Flags::TILECFG) % 2;
+    let tiledata = (value >> XCr0Flags::TILEDATA) % 2;
+    (x87 == 1)
+        & (avx <= sse)
+        & (bndreg == bndcsr)
+        & (opmask == zmm_hi256)
+        & (zmm_hi256 == hi16_zmm)
+        & (opmask <= avx)
+        & (tilecfg == tiledata)
+        & (value & supported == value)
+}
+
+// 19: XSETBV of a value that XCR0 may not have.
+fn refused_xcr0(supported: u64, r: Report) -> bool
+    ensures { λ b. ⌜ b ≡ refusedXcr0 supported r ⌝ }
+{
+    if reason_of(r) == VmxExitReason::XSETBV {
+        let registers = r.regs;
+        return !xcr0_allowed(supported, read_edx_eax(registers));
+    }
+    false
+}
+
 // 17: RIP would pass 2^64 - 1.
 fn past_end(r: Report) -> bool
     ensures { λ b. ⌜ b ≡ pastEnd r ⌝ }
@@ -203,11 +243,10 @@ fn efer_refusal(pair: Pair, entry: u32, r: Report) -> u32
     0
 }
 
-// The refusals of an exit: 16; 18; 20; 19, XSETBV with ECX 0; 21, an APIC access; 17; 8.
-pub fn exit_refusal(pair: Pair, entry: u32, r: Report) -> u32
-    ensures { λ n. ⌜ n ≡ exitRefusal pair entry r ⌝ }
+// Those of one exit reason alone: 16; 18; 20; 19; 21, an APIC access; or 0.
+fn reason_refusal(supported: u64, r: Report) -> u32
+    ensures { λ n. ⌜ n ≡ reasonRefusal supported r ⌝ }
 {
-    let reason = reason_of(r);
     if no_interrupt(r) {
         return Refusal::INTERRUPT;
     }
@@ -217,11 +256,23 @@ pub fn exit_refusal(pair: Pair, entry: u32, r: Report) -> u32
     if other_xcr(r) {
         return Refusal::XCR;
     }
-    if reason == VmxExitReason::XSETBV {
+    if refused_xcr0(supported, r) {
         return Refusal::XCR0;
     }
-    if reason == VmxExitReason::APIC_ACCESS {
+    if reason_of(r) == VmxExitReason::APIC_ACCESS {
         return Refusal::APIC_ACCESS;
+    }
+    0
+}
+
+// The refusals of an exit: those of its reason; 17; 8. The reason's stand in a function of their own: the compiler does not inline a call behind so many
+// branches, and would copy the report for it.
+pub fn exit_refusal(pair: Pair, entry: u32, supported: u64, r: Report) -> u32
+    ensures { λ n. ⌜ n ≡ exitRefusal pair entry supported r ⌝ }
+{
+    let refusal = reason_refusal(supported, r);
+    if refusal != 0 {
+        return refusal;
     }
     if past_end(r) {
         return Refusal::SUM;

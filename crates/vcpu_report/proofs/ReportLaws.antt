@@ -17,6 +17,7 @@ use Rattle.vmcs.specs.Writes.{Sized}
 use Rattle.vmcs.proofs.WriteLaws.{sized-applied, read-applied}
 use Rattle.vcpu_session.specs.Phase as Phase
 use Rattle.vcpu_session.specs.Session.{Lawful}
+use Rattle.vcpu_session.specs.declared.Xcr0.{Xcr0}
 use Rattle.vcpu_session.specs.declared.Session.{Session}
 use Rattle.vcpu_session.proofs.LawfulLaws.{lawful-alike, lawful-phase}
 use Rattle.vcpu_exit.specs.Reading.{reasonOf, failed, isApic}
@@ -26,7 +27,7 @@ use Rattle.vcpu_exit.proofs.Passes.{passes}
 use Rattle.vcpu_answers.specs.Answer.{answerOf}
 use Rattle.vcpu_answers.specs.declared.AxVCpuExitReason.the-variants.{Nothing, FailEntry}
 use Rattle.vcpu_report.specs.Handlers.{failureWrites, failureStored}
-use Rattle.vcpu_report.specs.ExitReport.{phaseAfter, failedEntry, afterExit, accepted, exitReport, reported}
+use Rattle.vcpu_report.specs.ExitReport.{phaseAfter, xcr0After, failedEntry, afterExit, accepted, exitReport, reported}
 use Rattle.vcpu_report.specs.Invariant.{Consistent, Sound, Fits}
 use Rattle.vcpu_report.specs.Laws.{SameRest, AfterExit, AfterFailure, ReportLaws}
 use Rattle.vcpu_report.specs.declared.Reported.{Reported}
@@ -70,14 +71,20 @@ module _ (s : Session) (r : Report) where
   -- ---- the rest
 
   same : (t : Session) → t .queue ≡ s .queue → t .progress .launched ≡ s .progress .launched → t .progress .entries ≡ s .progress .entries
-      → t .progress .held ≡ s .progress .held → t .capabilities ≡ s .capabilities → SameRest s t
-  same t a b c d e = record { queue = a; launched = b; entries = c; held = d; capabilities = e }
+      → t .progress .held ≡ s .progress .held → t .capabilities ≡ s .capabilities → t .xcr0 .supported ≡ s .xcr0 .supported → SameRest s t
+  same t a b c d e f = record { queue = a; launched = b; entries = c; held = d; capabilities = e; supported = f }
+
+  -- XSETBV loads the value alone
+  same-supported : xcr0After (s .xcr0) r .supported ≡ s .xcr0 .supported
+  unfolding xcr0After
+  same-supported = cond-all (λ (x : Xcr0). x .supported ≡ s .xcr0 .supported) (eqb (reasonOf r) VmxExitReason.XSETBV) _ _ (λ _. refl) (λ _. refl)
 
   rest-law : SameRest s (exitReport s r .session)
   unfolding failedEntry afterExit
   rest-law =
-      by-outcome (λ (a : Reported). SameRest s (a .session)) (same s refl refl refl refl refl) (λ _ _. same (failedEntry s r) refl refl refl refl refl)
-      (λ _ _. same (afterExit s r) refl refl refl refl refl)
+      by-outcome (λ (a : Reported). SameRest s (a .session)) (same s refl refl refl refl refl refl)
+      (λ _ _. same (failedEntry s r) refl refl refl refl refl refl)
+      (λ _ _. same (afterExit s r) refl refl refl refl refl same-supported)
 
   lawful-law : Lawful s → Lawful (exitReport s r .session)
   unfolding failedEntry afterExit
@@ -93,6 +100,7 @@ module _ (s : Session) (r : Report) where
       record {
         phase = refl;
         regs = refl;
+        xcr0 = refl;
         reason = read-applied (failureWrites r) (s .vmcs) VmcsReadOnly32.EXIT_REASON z (omega arith);
         qualification = read-applied (failureWrites r) (s .vmcs) VmcsReadOnlyNW.EXIT_QUALIFICATION z (omega arith);
         fields = λ f h e. kept-field (failureWrites r) (s .vmcs) f (valueOf (s .vmcs) f) z h e refl;
@@ -105,6 +113,7 @@ module _ (s : Session) (r : Report) where
       record {
         phase = refl;
         regs = refl;
+        xcr0 = refl;
         rip = rip-after (s .vmcs) r (s .capabilities) z;
         fields = k .fields;
         rflags = k .fields VmcsGuestNW.RFLAGS (omega arith) refl;

@@ -5,9 +5,10 @@ use lib.Dec.{eqb}
 use Rattle.regs.specs.declared.GeneralRegisters.{GeneralRegisters}
 use Rattle.definitions.specs.VmxExitReason as VmxExitReason
 use Rattle.vcpu_session.specs.Phase as Phase
-use Rattle.vcpu_session.specs.Session.{withProgress, withRegs, withVmcs, inPhase}
+use Rattle.vcpu_session.specs.Session.{withProgress, withRegs, withVmcs, withXcr0, inPhase, withValue}
+use Rattle.vcpu_session.specs.declared.Xcr0.{Xcr0}
 use Rattle.vcpu_session.specs.declared.Session.{Session}
-use Rattle.vcpu_exit.specs.Reading.{reasonOf, failed, isApic}
+use Rattle.vcpu_exit.specs.Reading.{reasonOf, failed, isApic, readEdxEax}
 use Rattle.vcpu_exit.specs.Refusal.{reportRefusal}
 use Rattle.vcpu_exit.specs.declared.Report.{Report}
 use Rattle.vcpu_answers.specs.Answer.{answerOf}
@@ -25,14 +26,20 @@ registersAfter r = cond (eqb (reasonOf r) VmxExitReason.CPUID) (handleCpuid (r .
 unfoldable pub phaseAfter : Report → ℕ
 phaseAfter r = cond (eqb (reasonOf r) VmxExitReason.MSR_READ) (cond (isApic (r .regs .rcx)) Phase.WAITING Phase.READY) Phase.READY
 
+-- XSETBV, reason 55, loads EDX:EAX into XCR0 (document 02, N1)
+unfoldable pub xcr0After : Xcr0 → Report → Xcr0
+xcr0After x r = cond (eqb (reasonOf r) VmxExitReason.XSETBV) (withValue x (readEdxEax (r .regs))) x
+
 -- a failed entry stores reason and qualification only, and ends the session; every other part stays
 unfoldable pub failedEntry : Session → Report → Session
 failedEntry s r = withProgress (withVmcs s (failureStored (s .vmcs) r)) (inPhase (s .progress) Phase.ENDED)
 
--- an exit changes the fields, the registers and the phase; every other part stays
+-- an exit changes the fields, XCR0, the registers and the phase; every other part stays
 unfoldable pub afterExit : Session → Report → Session
 afterExit s r =
-    withProgress (withRegs (withVmcs s (vmcsAfter (s .vmcs) (s .capabilities) r)) (registersAfter r)) (inPhase (s .progress) (phaseAfter r))
+    withProgress
+    (withRegs (withXcr0 (withVmcs s (vmcsAfter (s .vmcs) (s .capabilities) r)) (xcr0After (s .xcr0) r)) (registersAfter r))
+    (inPhase (s .progress) (phaseAfter r))
 
 abbrev pub reported : ℕ → AxVCpuExitReason → Session → Reported
 reported n a s = record { refusal = n; answer = a; session = s }

@@ -23,7 +23,7 @@ use Rattle.vcpu_exit.specs.declared.Report.{Report}
 use Rattle.vcpu_answers.specs.Answer.{answerOf}
 use Rattle.vcpu_answers.specs.declared.AxVCpuExitReason.the-variants.{FailEntry}
 use Rattle.vcpu_report.specs.Handlers.{reportWrites}
-use Rattle.vcpu_report.specs.ExitReport.{phaseAfter, registersAfter, exitReport}
+use Rattle.vcpu_report.specs.ExitReport.{phaseAfter, registersAfter, xcr0After, exitReport}
 use Rattle.vcpu_report.specs.Invariant.{Consistent, Sound, Fits}
 
 -- a field is one of the list
@@ -47,18 +47,20 @@ handlerFields =
     ∷ VmcsGuestNW.RIP
     ∷ []
 
--- queue, counts and capabilities are the same
+-- queue, counts, capabilities and the supported bits of XCR0 are the same
 pub record SameRest (s t : Session) : Type 0 where
   pub queue : t .queue ≡ s .queue
   pub launched : t .progress .launched ≡ s .progress .launched
   pub entries : t .progress .entries ≡ s .progress .entries
   pub held : t .progress .held ≡ s .progress .held
   pub capabilities : t .capabilities ≡ s .capabilities
+  pub supported : t .xcr0 .supported ≡ s .xcr0 .supported
 
 -- after an accepted exit. Every field that handling does not write is the report's, or what it was
 pub record AfterExit (s t : Session) (r : Report) : Type 0 where
   pub phase : t .progress .phase ≡ phaseAfter r
   pub regs : t .regs ≡ registersAfter r
+  pub xcr0 : t .xcr0 ≡ xcr0After (s .xcr0) r
   pub rip : valueOf (t .vmcs) VmcsGuestNW.RIP ≡ r .rip + advanceOf r
   pub fields : (f : Field) → placeOf f < sizeOf f → oneOf handlerFields f ≡ false → valueOf (t .vmcs) f ≡ lastOf (reportWrites (s .vmcs) r) f (valueOf (s .vmcs) f)
   pub rflags : valueOf (t .vmcs) VmcsGuestNW.RFLAGS ≡ r .rflags
@@ -71,6 +73,7 @@ pub record AfterExit (s t : Session) (r : Report) : Type 0 where
 pub record AfterFailure (s t : Session) (r : Report) : Type 0 where
   pub phase : t .progress .phase ≡ Phase.ENDED
   pub regs : t .regs ≡ s .regs
+  pub xcr0 : t .xcr0 ≡ s .xcr0
   pub reason : valueOf (t .vmcs) VmcsReadOnly32.EXIT_REASON ≡ r .reason
   pub qualification : valueOf (t .vmcs) VmcsReadOnlyNW.EXIT_QUALIFICATION ≡ r .qualification
   pub fields : (f : Field) → placeOf f < sizeOf f → oneOf (VmcsReadOnly32.EXIT_REASON ∷ VmcsReadOnlyNW.EXIT_QUALIFICATION ∷ []) f ≡ false

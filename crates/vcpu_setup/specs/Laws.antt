@@ -55,6 +55,8 @@ pub record SetUp (s : Session) (a : Arguments) (r : Session) : Type 0 where
   pub fields : (f : Field) → placeOf f < sizeOf f → valueOf (r .vmcs) f ≡ lastOf (setupWrites a) f (valueOf (s .vmcs) f)
   pub sized : Sized (r .vmcs)
   pub capabilities : r .capabilities ≡ capabilitiesOf (a .msrs)
+  pub xcr0 : r .xcr0 .value ≡ 1
+  pub supported : r .xcr0 .supported ≡ a .xcr0supported
   -- the rest is as it was
   pub regs : r .regs ≡ s .regs
   pub queue : r .queue ≡ s .queue

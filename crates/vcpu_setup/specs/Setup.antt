@@ -1,12 +1,13 @@
 -- Setup: its refusals, and the session that it leaves (document 01, "Setup" and its numbers). Assumes nothing.
-use Prim.Native.Nat.{ℕ}
+use Prim.Native.Nat.{ℕ, _^_}
 use mathlib.Core.Bool.{Bool, cond, not, _&&_}
 use lib.Bits.{bitAnd}
 use lib.Dec.{eqb}
 use Rattle.vmcs.specs.Control.{pairAt}
+use Rattle.vmcs.specs.Flags.XCr0Flags as XCr0Flags
 use Rattle.vmcs.specs.declared.controls.Pair.{Pair}
 use Rattle.vcpu_session.specs.Phase as Phase
-use Rattle.vcpu_session.specs.Session.{isUnlawful, withProgress, withVmcs, withCapabilities, inPhase}
+use Rattle.vcpu_session.specs.Session.{isUnlawful, withProgress, withVmcs, withCapabilities, withXcr0, inPhase}
 use Rattle.vcpu_session.specs.declared.Fixed.{Fixed}
 use Rattle.vcpu_session.specs.declared.Capabilities.{Capabilities}
 use Rattle.vcpu_session.specs.declared.Session.{Session}
@@ -46,9 +47,13 @@ setupRefusal s c f =
     (cond (not (eqb (s .progress .phase) Phase.FRESH)) 1
     (capabilityRefusal c f))
 
--- ready, with the fields written and the capabilities kept; the counts and every other part stay
+-- ready, with the fields written, the capabilities and the supported bits of XCR0 kept, and XCR0 as at reset, X87 alone (document 02, N1; SDM 1, 13.3); the counts and
+-- every other part stay
 unfoldable pub readied : Session → Arguments → Capabilities → Session
-readied s a c = withProgress (withCapabilities (withVmcs s (vmcsSet (s .vmcs) a)) c) (inPhase (s .progress) Phase.READY)
+readied s a c =
+    withProgress
+    (withXcr0 (withCapabilities (withVmcs s (vmcsSet (s .vmcs) a)) c) (record { value = 2 ^ XCr0Flags.X87; supported = a .xcr0supported }))
+    (inPhase (s .progress) Phase.READY)
 
 -- refused by the number of `setupRefusal` unless that is 0
 unfoldable pub setupOf : Session → Arguments → Answered

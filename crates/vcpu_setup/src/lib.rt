@@ -17,6 +17,7 @@ use vcpu_session::Capabilities;
 use vcpu_session::Fixed;
 use vcpu_session::Phase;
 use vcpu_session::Session;
+use vcpu_session::Xcr0;
 use vmcs::Vmcs;
 use vmcs::controls::CrWords;
 use vmcs::controls::Pair;
@@ -26,6 +27,7 @@ use vmcs::flags::ExitControls;
 use vmcs::flags::PinbasedControls;
 use vmcs::flags::PrimaryControls;
 use vmcs::flags::SecondaryControls;
+use vmcs::flags::XCr0Flags;
 use vmcs::names::VmcsControl32;
 use vmcs::names::VmcsControl64;
 use vmcs::names::VmcsControlNW;
@@ -98,6 +100,8 @@ pub struct Arguments {
     pub pat: u64,
     pub addresses: Addresses,
     pub msrs: CapabilityMsrs,
+    // The bits of XCR0 that the host supports.
+    pub xcr0supported: u64,
     pub features: Features,
 }
 
@@ -506,6 +510,9 @@ fn setup_refusal(s: Session, c: Capabilities, f: Features) -> u32
     capability_refusal(c, f)
 }
 
+// XCR0 at reset (SDM 1, 13.3): X87 alone.
+const X87: u64 = 1 << XCr0Flags::X87;
+
 // The session of an accepted setup.
 pub fn ready(s: Session, a: Arguments, c: Capabilities) -> Session
     ensures { λ r. ⌜ r ≡ readied s a c ⌝ }
@@ -514,10 +521,15 @@ pub fn ready(s: Session, a: Arguments, c: Capabilities) -> Session
     let written = set_vmcs(fields, a);
     let mut progress = s.progress;
     progress.phase = Phase::READY;
+    let xcr0 = Xcr0 {
+        value: X87,
+        supported: a.xcr0supported,
+    };
     let mut next = s;
     next.progress = progress;
     next.vmcs = written;
     next.capabilities = c;
+    next.xcr0 = xcr0;
     next
 }
 

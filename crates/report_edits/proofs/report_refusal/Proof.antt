@@ -22,5 +22,6 @@ report-refusal-spec =
     (λ c. search (answers, never-unlawful, ← c .before .before .before .before .before .before .before .phase-at .ensures, ← c .before .before .before .before .before .unknown-reason .ensures, ← c .before .before .before .is-failed .ensures, ← c .before .owned-bits-differ .ensures))
     (λ c κs. search (whole, needs))
     (λ c κs. search (whole, needs))
+    (λ c κs. search (whole, needs))
     (λ c κs. search needs)
-    (λ c. search (answers, never-unlawful, ← c .before .before .before .before .before .before .before .before .before .before .phase-at .ensures, ← c .before .before .before .before .before .before .before .before .unknown-reason .ensures, ← c .before .before .before .before .before .before .is-failed .ensures, ← c .before .before .before .before .owned-bits-differ .ensures, ← c .before .before .entry-pair-at .ensures, ← c .before .w32-at .ensures, ← c .exit-refusal .ensures)))
+    (λ c. search (answers, never-unlawful, ← c .before .before .before .before .before .before .before .before .before .before .before .phase-at .ensures, ← c .before .before .before .before .before .before .before .before .before .unknown-reason .ensures, ← c .before .before .before .before .before .before .before .is-failed .ensures, ← c .before .before .before .before .before .owned-bits-differ .ensures, ← c .before .before .before .entry-pair-at .ensures, ← c .before .before .w32-at .ensures, ← c .before .xcr0-at .ensures, ← c .exit-refusal .ensures)))

@@ -16,4 +16,5 @@ advance-to-spec =
     (λ c. search (answers, c .before .if3 .taken))
     (λ c κs. search needs)
     (λ c. search (answers, c .if4 .taken, ← c .before .is-apic .ensures, c .before .before .if3 .left))
-    (λ c. search (answers, c .if4 .left, ← c .before .is-apic .ensures, c .before .before .if3 .left)))
+    (λ c. search (answers, c .before .if4 .left, ← c .before .before .is-apic .ensures, c .before .before .before .if3 .left))
+    (λ c. search (answers, c .before .if4 .left, ← c .before .before .is-apic .ensures, c .before .before .before .if3 .left)))

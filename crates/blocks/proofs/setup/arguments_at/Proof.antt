@@ -15,12 +15,14 @@ arguments-at-spec =
     (λ c κs. search needs)
     (λ c κs. search needs)
     (λ c κs. search needs)
+    (λ c κs. search needs)
     (λ c.
     rw (
-      c .before .before .before .before .before .host-at .ensures,
-      c .before .before .before .before .get8 .ensures,
-      c .before .before .before .get82 .ensures,
-      c .before .before .addresses-at .ensures,
-      c .before .msrs-at .ensures,
+      c .before .before .before .before .before .before .host-at .ensures,
+      c .before .before .before .before .before .get8 .ensures,
+      c .before .before .before .before .get82 .ensures,
+      c .before .before .before .addresses-at .ensures,
+      c .before .before .msrs-at .ensures,
+      c .before .get83 .ensures,
       c .features-at .ensures,
     )))

@@ -28,7 +28,7 @@ use Rattle.record.specs.Codec.{sessionOf}
 use Rattle.calls.specs.Moves.{Move, queues, finds-none, holds, writes, exits, fails, rests, moved, Tally, begun, tallied, talliedAll}
 use Rattle.calls.specs.Reference.{Call, entry, WellTyped, AllWellTyped, Event, entryMove, limitsOf, start, Reference, EventFields, choose, isHeld, answerOn, referenceAnswer, referenceAfter, referenceAnswers, Fed, ownRules}
 use Rattle.calls.specs.Calls.{stepOf, newRecord, after, loggedOf, historyOf, isRefused, Logged, fed, moveOf, movesOf, tallyOf, answersOf, written, eventOf, waitingOf, wordsOf}
-use Rattle.calls.specs.DemandThree.{Answers, Wrote, Launches, WaitLaw, isWritten, Permits, Unwritten, judgedFields, acceptedSetup, WholeList}
+use Rattle.calls.specs.DemandThree.{Answers, Wrote, Launches, WaitLaw, isWritten, Permits, Unwritten, judgedFields, Loadable, acceptedSetup, WholeList}
 use Rattle.calls.proofs.Choices.{impossible, choose-yes, choose-no}
 use Rattle.calls.proofs.WordBits.{tabled}
 use Rattle.calls.proofs.Sessions.{sessionStep, next, sessionAfter, sessionLogged, sessionLog, Sound, viewOf}
@@ -36,7 +36,7 @@ use Rattle.calls.proofs.Fits.{sound-step}
 use Rattle.calls.proofs.Steps.{step, written-waits, front-waits, answer-moves, rsp-after, event-written, event-so}
 use Rattle.calls.proofs.Waiting.{Kept, begins, keeps, counted, waits, injects}
 use Rattle.calls.proofs.Whole.{can, moves, accepted, Follows, run, kept-after}
-use Rattle.calls.proofs.Invariants.{entry-ready, Clear, clear-after, launched-after, one-setup}
+use Rattle.calls.proofs.Invariants.{entry-ready, Clear, clear-after, launched-after, one-setup, loadable-after}
 use Rattle.calls.proofs.Permit.{unwritten-at, permits-since, enter-kept, kept-permits}
 use Rattle.calls.proofs.Records.{Holds, carried, carry, holds-new, sound-new}
 
@@ -244,6 +244,7 @@ whole-list calls w =
     let h = r .sound in
     let on = ap fed (sym (k .history)) in
     let at : viewOf t s ≡ p = r .state ∙ (λ i. referenceAfter (view-new i) (on i)) in
+    let words : wordsOf (sessionOf b) ≡ p .words = ap wordsOf (m .holds) ∙ ap (λ (q : Reference). q .words) at in
     let same : viewOf t s .tally ≡ t = r .counts (ap (λ (q : Reference). q .tally) view-new) in
     let follows : Follows start (fed (historyOf newRecord calls)) = subst (λ (ls : List Fed). Follows start ls) on (subst (λ (q : Reference). Follows q (fed log)) view-new (r .follows)) in
     let line = kept-after {ahead = []} {x = []} begun newSession calls w sound-new
@@ -253,7 +254,7 @@ whole-list calls w =
     record {
       accepted = m .accepted;
       pending = ap waitingOf (m .holds) ∙ ap (λ (q : Reference). q .pending) at;
-      words = ap wordsOf (m .holds) ∙ ap (λ (q : Reference). q .words) at;
+      words = words;
       tally = ap tallyOf (k .history) ∙ sym same ∙ ap (λ (q : Reference). q .tally) at;
       answered = ap answersOf (k .history) ∙ r .answered ∙ (λ i. referenceAnswers (view-new i) (on i));
       numbers = λ c v.
@@ -294,5 +295,8 @@ whole-list calls w =
           (permits-since block a c msr newSession calls w sound-new
           (unwritten-at judgedFields (fed log) (subst (Unwritten judgedFields) (sym on) none))
           (subst (List·Memᴰ (acceptedSetup block a c msr)) (sym on) mem))));
+      loadable = λ stack v ok.
+          subst Loadable (sym words)
+          (loadable-after start (fed (historyOf newRecord calls)) follows refl (λ e. entry-ready p stack (ready stack v ok) (λ o. omega arith)));
       law = law b s m h;
     }

@@ -43,7 +43,7 @@ use Rattle.vcpu_setup.specs.Writes.{setupWrites}
 use Rattle.vcpu_setup.proofs.SetupLaws.{keeps-setup}
 use Rattle.blocks.specs.SetupBlock.{argumentsOf}
 use Rattle.record.specs.Fitting.{Fitting, ProgressFits, VmcsFits, QueueFits}
-use Rattle.record.proofs.FittingLaws.{progress-fits, regs-fits, vmcs-fits, queue-fits, capabilities-fits, in-phase-fits}
+use Rattle.record.proofs.FittingLaws.{progress-fits, regs-fits, vmcs-fits, queue-fits, capabilities-fits, xcr0-fits, in-phase-fits}
 use Rattle.vcpu_report.proofs.ReportLaws.{report-laws}
 use Rattle.blocks.specs.ReportBlock as Report
 use Rattle.blocks.specs.ReportBlock.{reportOf}
@@ -52,7 +52,7 @@ use Rattle.calls.proofs.Keeps.{keeps-queue-step, keeps-interrupt, keeps
 use Rattle.calls.specs.Reference.{Call, setup, queueEvent, injectInterrupt, entry, exitReport, apicValue, fieldWrite, registerWrite, WellTyped}
 use Rattle.record_edits.proofs.Fits.{numbers-set, numbers-shifted, reg-fits, put-fits}
 use Rattle.calls.proofs.Fields.{value-fits, applied-fits}
-use Rattle.calls.proofs.SetupFits.{writes-fit, capabilities-fit}
+use Rattle.calls.proofs.SetupFits.{writes-fit, capabilities-fit, supported-fits}
 use Rattle.calls.proofs.ReportFits.{block-fits, report-fits}
 use Rattle.calls.proofs.Sessions.{hasBuffers, next, Sound}
 
@@ -226,7 +226,8 @@ module _ (s : Session) (h : Sound s) where
       cond-all (λ (a : Answered). Fitting (a .session)) (eqb (setupRefusal s (capabilitiesOf (argumentsOf block .msrs)) (argumentsOf block .features)) 0) _ _
       (λ _.
       let fields = applied-fits (setupWrites (argumentsOf block)) (s .vmcs) (h .fits .vmcs) (writes-fit block b) in
-      in-phase-fits (capabilities-fits (vmcs-fits (h .fits) fields) (capabilities-fit block b)) (lit< tt))
+      let kept = capabilities-fits (vmcs-fits (h .fits) fields) (capabilities-fit block b) in
+      in-phase-fits (xcr0-fits kept (record { value = lit< tt; supported = supported-fits block b })) (lit< tt))
       (λ _. h .fits)
 
 -- ---- every call

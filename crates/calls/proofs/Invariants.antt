@@ -1,4 +1,4 @@
--- What holds of the reference along every list of calls: bit 31 of the entry interruption field, launches, and one setup. Assumes nothing.
+-- What holds of the reference along every list of calls: bit 31 of the entry interruption field, launches, one setup, and XCR0. Assumes nothing.
 use Prim.Native.Nat.{ℕ, _+_}
 use mathlib.Core.Path.{_≡_, refl, sym, ap, _∙_, subst}
 use mathlib.Core.Bool.{Bool, true, false, cond, not, true≢false}
@@ -13,13 +13,16 @@ use Rattle.bits.specs.Words.{bit}
 use Rattle.bits.proofs.Tells.{both-false, cond-all}
 use Rattle.vcpu_events.specs.declared.Injection.{Injection}
 use Rattle.vcpu_events.specs.declared.Injection.the-variants.{Held, Written}
+use Rattle.vcpu_exit.specs.Xcr0.{xcr0Allowed}
+use Rattle.vcpu_exit.specs.declared.Report.{Report}
 use Rattle.vcpu_report.proofs.Known.{invalid}
 use Rattle.blocks.specs.ReportBlock.{reportOf}
 use Rattle.calls.specs.Moves.{Move, fails, exits, tallied}
-use Rattle.calls.specs.Reference.{Call, setup, queueEvent, injectInterrupt, entry, exitReport, apicValue, fieldWrite, registerWrite, Event, entryMove, answerOn, isHeld, awaitsValue, Words, inPhase, atExit, wordsBy, Reference, moveOn, accept, referenceStep, referenceAfter, Fed, ownRules}
+use Rattle.calls.specs.Reference.{Call, setup, queueEvent, injectInterrupt, entry, exitReport, apicValue, fieldWrite, registerWrite, Event, entryMove, answerOn, isHeld, awaitsValue, Words, inPhase, atExit, wordsBy, basicReason, edxEax, Xcr0Allowed, exitRules, choose, Reference, moveOn, accept, referenceStep, referenceAfter, Fed, ownRules}
 use Rattle.calls.specs.Calls.{writesField, written}
-use Rattle.calls.specs.DemandThree.{acceptedSetup, NoSetup, OneSetup}
+use Rattle.calls.specs.DemandThree.{Loadable, acceptedSetup, NoSetup, OneSetup}
 use Rattle.calls.proofs.Choices.{choose-no, choose-all}
+use Rattle.calls.proofs.ReportNumbers.{allowed-tells}
 use Rattle.calls.proofs.Whole.{Follows}
 
 -- ---- what acceptance says of the phase
@@ -199,3 +202,61 @@ set-up-after p (l ∷ ls) f e =
 -- where the phase is not fresh, exactly one setup was accepted
 pub one-setup : (p : Reference) (ls : List Fed) → Follows p ls → p .words .phase ≡ 0 → referenceAfter p ls .words .phase ≢ 0 → OneSetup ls
 one-setup p ls f e n = elim (set-up-after p ls f e) [ inl x ↦ absurd (n (x .0)) | inr x ↦ x ]
+
+-- ---- XCR0 from setup on: 1, or a value that passes the rule
+
+abbrev Loads : Words → Type 0
+Loads w = (w .phase ≡ 0) ⊎ Loadable w
+
+-- the value of an accepted XSETBV passed it
+passes : (w : Words) (r : Report) → Refuses (exitRules w r) 0 → basicReason r ≡ 55 → Xcr0Allowed (w .supported) (edxEax r)
+passes w r f e =
+    let before = passed 20 (λ z. omega arith) (passed 18 (λ z. omega arith) (passed 16 (λ z. omega arith) (passed 15 (λ z. omega arith) f .1) .1) .1) in
+    let rule = passed 19 (λ z. omega arith) (before .1) .0 in
+    go (xcr0Allowed (w .supported) (edxEax r)) refl rule
+  where
+    go : (t : Bool) → xcr0Allowed (w .supported) (edxEax r) ≡ t → ((basicReason r ≡ 55) × (Xcr0Allowed (w .supported) (edxEax r) → ⊥) → ⊥) → Xcr0Allowed (w .supported) (edxEax r)
+    go true t n = allowed-tells (w .supported) (edxEax r) .yes-so t
+    go false t n = absurd (n (e, allowed-tells (w .supported) (edxEax r) .not-so t))
+
+-- a session that is not fresh
+not-fresh : (w : Words) → (w .phase ≡ 0 → ⊥) → Loads w → Loadable w
+not-fresh w n (inl e) = absurd (n e)
+not-fresh w n (inr l) = l
+
+exit-loads : (w : Words) (r : Report) → Refuses (exitRules w r) 0 → Loadable w → Loadable (atExit w r)
+exit-loads w r f k = go (ℕ-discrete (basicReason r) 55)
+  where
+    go : (d : Dec (basicReason r ≡ 55)) → (choose d (edxEax r) (w .xcr0) ≡ 1) ⊎ Xcr0Allowed (w .supported) (choose d (edxEax r) (w .xcr0))
+    go (yes e) = inr (passes w r f e)
+    go (no n) = k
+
+loads-accepted : (p : Reference) (c : Call) → Refuses (ownRules p c) 0 → Loads (p .words) → Loads (wordsBy p c)
+loads-accepted p (setup block a b msr) w k = inr (inl refl)
+loads-accepted p (queueEvent vector coded code) w k = k
+loads-accepted p (injectInterrupt vector) w k = k
+loads-accepted p (entry stack) w k = inr (not-fresh (p .words) (λ e. entry-ready p stack w (λ z. omega arith)) k)
+loads-accepted p (exitReport block) w k = inr (go (bit 31 (reportOf block .reason)) (passed 14 (λ z. omega arith) (passed 1 (λ z. omega arith) (passed 2 (λ z. omega arith) w .1) .1) .1))
+  where
+    old : Loadable (p .words)
+    old = not-fresh (p .words) (λ e. report-running p block w (λ z. omega arith)) k
+
+    go : (f : Bool) → Refuses (cond f [] (exitRules (p .words) (reportOf block))) 0
+        → Loadable (cond {A = Words} f (inPhase (p .words) 4) (atExit (p .words) (reportOf block)))
+    go true n = old
+    go false n = exit-loads (p .words) (reportOf block) n old
+loads-accepted p (apicValue value) w k = inr (not-fresh (p .words) (λ e. apic-waits p value w (λ z. omega arith)) k)
+loads-accepted p (fieldWrite encoding value) w k = k
+loads-accepted p (registerWrite index value) w k = k
+
+loads-step : (p : Reference) (c : Call) (r : Bool) → (r ≡ false → Refuses (ownRules p c) 0) → Loads (p .words) → Loads (referenceStep p c r .words)
+loads-step p c true w k = k
+loads-step p c false w k = loads-accepted p c (w refl) k
+
+loads-after : (p : Reference) (ls : List Fed) → Follows p ls → Loads (p .words) → Loads (referenceAfter p ls .words)
+loads-after p [] f k = k
+loads-after p (l ∷ ls) f k = loads-after (referenceStep p (l .call) (l .refused)) ls (f .1) (loads-step p (l .call) (l .refused) (f .0) k)
+
+-- where the phase is not fresh
+pub loadable-after : (p : Reference) (ls : List Fed) → Follows p ls → p .words .phase ≡ 0 → (referenceAfter p ls .words .phase ≡ 0 → ⊥) → Loadable (referenceAfter p ls .words)
+loadable-after p ls f e n = not-fresh (referenceAfter p ls .words) n (loads-after p ls f (inl e))

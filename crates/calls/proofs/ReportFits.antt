@@ -30,6 +30,7 @@ use Rattle.vmcs.specs.declared.controls.EferUpdate.{EferUpdate}
 use Rattle.vmcs.specs.declared.controls.Pair.{Pair}
 use Rattle.vcpu_session.specs.declared.Capabilities.{Capabilities}
 use Rattle.vcpu_session.specs.declared.Fixed.{Fixed}
+use Rattle.vcpu_session.specs.declared.Xcr0.{Xcr0}
 use Rattle.vcpu_session.specs.declared.Session.{Session}
 use Rattle.vcpu_session.specs.Session.{VMX_PREEMPTION_TIMER_SET_VALUE}
 use Rattle.vcpu_exit.specs.Reading.{reasonOf, failed, registerOf, movedValue, isMoveTo, advanceOf, pastEnd}
@@ -42,12 +43,12 @@ use Rattle.vcpu_events.specs.Entry.{windowWord, windowSet}
 use Rattle.vcpu_report.specs.Handlers.{reportWrites, stored, failureWrites, failureStored, timerSet, cr0Set, cr4Set, eferWrites, eferUpdated, crHandled, handledAs, ripAdvanced, vmcsAfter}
 use Rattle.blocks.specs.ReportLayout as Layout
 use Rattle.blocks.specs.ReportBlock.{cpuidOf, reportOf}
-use Rattle.vcpu_report.specs.ExitReport.{registersAfter, failedEntry, afterExit, accepted, exitReport}
+use Rattle.vcpu_report.specs.ExitReport.{registersAfter, xcr0After, failedEntry, afterExit, accepted, exitReport}
 use Rattle.vcpu_report.specs.declared.Reported.{Reported}
 use Rattle.vcpu_report.proofs.ReportLaws.{phase-known}
 use Rattle.record.specs.Runs.{All, Numbers, readAll, numbers}
-use Rattle.record.specs.Fitting.{Fitting, VmcsFits, PairFits, FixedFits, CapabilitiesFit}
-use Rattle.record.proofs.FittingLaws.{regs-fits, vmcs-fits, in-phase-fits}
+use Rattle.record.specs.Fitting.{Fitting, VmcsFits, PairFits, FixedFits, CapabilitiesFit, Xcr0Fits}
+use Rattle.record.proofs.FittingLaws.{regs-fits, vmcs-fits, xcr0-fits, in-phase-fits}
 use Rattle.calls.proofs.Fields.{_⊗_, value-fits, applied-fits}
 use Rattle.record.proofs.Codecs.{registers-read}
 use Rattle.record_edits.proofs.Fits.{reg-fits}
@@ -237,6 +238,12 @@ failure-fits : (v : Vmcs) (r : Report) → FitsReport r → VmcsFits v → VmcsF
 unfolding failureStored
 failure-fits v r f m = applied-fits (failureWrites r) v m (f .reason, (f .qualification, tt))
 
+-- ---- XCR0
+
+xcr0-after-fits : (x : Xcr0) (r : Report) → Xcr0Fits x → Xcr0Fits (xcr0After x r)
+unfolding xcr0After
+xcr0-after-fits x r f = cond-all Xcr0Fits (eqb (reasonOf r) VmxExitReason.XSETBV) _ _ (λ _. record { value = omega arith; supported = f .supported }) (λ _. f)
+
 -- ---- the report
 
 within-end : (r : Report) → pastEnd r ≡ false → r .rip + advanceOf r < 2 ^ 64
@@ -251,7 +258,7 @@ report-fits s r f h =
     (λ _. in-phase-fits (vmcs-fits (h .fits) (failure-fits (s .vmcs) r f (h .fits .vmcs))) (lit< tt))
     (λ u.
     let fields = after-fits (s .vmcs) (s .capabilities) r (h .fits .capabilities) f (within-end r (passes s r (eqb-true _ _ t) u .sum)) (h .fits .vmcs) in
-    in-phase-fits (regs-fits (vmcs-fits (h .fits) fields) (registersAfter r) (registers-fit r f)) (omega (arith, phase-known r))))
+    in-phase-fits (regs-fits (xcr0-fits (vmcs-fits (h .fits) fields) (xcr0-after-fits (s .xcr0) r (h .fits .xcr0))) (registersAfter r) (registers-fit r f)) (omega (arith, phase-known r))))
     (λ _. h .fits)
   where
     P : Reported → Type 0

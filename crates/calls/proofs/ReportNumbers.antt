@@ -10,10 +10,10 @@ use lib.Bits.{bitAnd}
 use lib.Dec.{T, eqb, leb, ltb, eqb→eq}
 use lib.ListN.{getD}
 use borrow.Author.Tests.{eqb-true, eqb-false, ltb-true, ltb-false, eq-eqb, le-leb, lt-leb}
-use Rattle.bits.specs.Words.{bit}
+use Rattle.bits.specs.Words.{bit, flag, Within}
 use Rattle.bits.proofs.AllBelow.{at}
-use Rattle.bits.proofs.BitLaws.{bit-and, same-bits}
-use Rattle.bits.proofs.WordLaws.{is-true}
+use Rattle.bits.proofs.BitLaws.{is-flag, bit-and, same-bits}
+use Rattle.bits.proofs.WordLaws.{is-true, within-of, within-eq}
 use Rattle.bits.specs.Refuses.{by, Refuses}
 use Rattle.bits.proofs.Tells.{Tells, tells-eq, tells-leb, tells-ltb, tells-on, tells-off, tells-and, tells-or, tells-not, tells-as, tells-is, rung, ladder}
 use Rattle.regs.specs.Registers.{listOf}
@@ -24,15 +24,17 @@ use Rattle.vmcs.specs.Names.VmcsControl32 as VmcsControl32
 use Rattle.vmcs.specs.declared.controls.EferUpdate.{EferUpdate}
 use Rattle.vmcs.specs.declared.controls.Pair.{Pair}
 use Rattle.vcpu_session.specs.Session.{Lawful}
+use Rattle.vcpu_session.specs.declared.Xcr0.{Xcr0}
 use Rattle.vcpu_session.specs.declared.Session.{Session}
 use Rattle.vcpu_session.proofs.LawfulLaws.{of-lawful}
 use Rattle.vcpu_exit.specs.Reading.{isApic, registerOf, movedValue, isMoveTo, turnsPagingOn, advanceTo, advanceOf, pastEnd}
-use Rattle.vcpu_exit.specs.Refusal.{unknownReason, ownedBitsDiffer, noInterrupt, otherAccess, otherXcr, eferRefusal, entryPair, exitRefusal, reportRefusal}
+use Rattle.vcpu_exit.specs.Refusal.{unknownReason, ownedBitsDiffer, noInterrupt, otherAccess, otherXcr, refusedXcr0, eferRefusal, entryPair, reasonRefusal, exitRefusal, reportRefusal}
+use Rattle.vcpu_exit.specs.Xcr0.{digit, xcr0Allowed}
 use Rattle.vcpu_exit.specs.declared.Report.{Report}
-use Rattle.vcpu_report.specs.ExitReport.{phaseAfter}
-use Rattle.calls.specs.Reference.{choose, both, either, basicReason, ecxOf, NamesApic, namesApic, awaitsValue, Agree, MovToCr, movSource, advance, UnknownReason, SetsIa32e, exitRules, reportRules}
+use Rattle.vcpu_report.specs.ExitReport.{phaseAfter, xcr0After}
+use Rattle.calls.specs.Reference.{choose, both, either, basicReason, ecxOf, edxEax, NamesApic, namesApic, awaitsValue, Agree, MovToCr, movSource, advance, UnknownReason, Xcr0Allowed, SetsIa32e, exitRules, reportRules}
 use Rattle.calls.specs.Calls.{wordsOf}
-use Rattle.calls.proofs.Choices.{chosen}
+use Rattle.calls.proofs.Choices.{chosen, choose-ap}
 
 -- ---- tests that tell
 
@@ -54,6 +56,12 @@ phase-agrees r = join (eqb (basicReason r) 31) (isApic (r .regs .rcx)) ∙ picks
     join true b = refl
     join false b = refl
 
+pub xcr0-agrees : (x : Xcr0) (r : Report) → xcr0After x r .value ≡ choose (ℕ-discrete (basicReason r) 55) (edxEax r) (x .value)
+unfolding xcr0After
+xcr0-agrees x r =
+    let d = ℕ-discrete (basicReason r) 55 in
+    ap (λ (y : Xcr0). y .value) (picks (tells-eq (basicReason r) 55) d _ x) ∙ choose-ap (λ (y : Xcr0). y .value) d _ x
+
 pub move-tells : (r : Report) (n : ℕ) → Tells (isMoveTo r n) (MovToCr n r)
 unfolding isMoveTo
 move-tells r n = tells-and (tells-eq (r .qualification / 2 ^ 4 % 4) 0) (tells-eq (r .qualification % 2 ^ 4) n)
@@ -68,11 +76,13 @@ advance-agrees : (r : Report) → advanceOf r ≡ advance r
 unfolding advanceTo
 advance-agrees r =
     let n = basicReason r in
-    let last : cond {A = ℕ} ((eqb n 31 || eqb n 32) && isApic (r .regs .rcx)) 2 0 ≡ choose (both (either (ℕ-discrete n 31) (ℕ-discrete n 32)) (namesApic r)) 2 0
-    = picks (tells-and (tells-or (tells-eq n 31) (tells-eq n 32)) (apic-tells r)) (both (either (ℕ-discrete n 31) (ℕ-discrete n 32)) (namesApic r)) 2 0 in
-    ap (λ (x : ℕ). cond (eqb n 10) 2 (cond (eqb n 28) 3 (cond (eqb n 18 || eqb n 30) (r .length % 2 ^ 8) x))) last
-    ∙ ap (λ (x : ℕ). cond (eqb n 10) 2 (cond (eqb n 28) 3 x)) (picks (tells-or (tells-eq n 18) (tells-eq n 30))
-    (either (ℕ-discrete n 18) (ℕ-discrete n 30)) (r .length % 2 ^ 8) _)
+    let msr = both (either (ℕ-discrete n 31) (ℕ-discrete n 32)) (namesApic r) in
+    let length = r .length % 2 ^ 8 in
+    ap (λ (x : ℕ). cond (eqb n 10) 2 (cond (eqb n 28) 3 (cond (eqb n 18 || eqb n 30) length (cond ((eqb n 31 || eqb n 32) && isApic (r .regs .rcx)) 2 x))))
+    (picks (tells-eq n 55) (ℕ-discrete n 55) 3 0)
+    ∙ ap (λ (x : ℕ). cond (eqb n 10) 2 (cond (eqb n 28) 3 (cond (eqb n 18 || eqb n 30) length x)))
+    (picks (tells-and (tells-or (tells-eq n 31) (tells-eq n 32)) (apic-tells r)) msr 2 _)
+    ∙ ap (λ (x : ℕ). cond (eqb n 10) 2 (cond (eqb n 28) 3 x)) (picks (tells-or (tells-eq n 18) (tells-eq n 30)) (either (ℕ-discrete n 18) (ℕ-discrete n 30)) length _)
     ∙ ap (λ (x : ℕ). cond (eqb n 10) 2 x) (picks (tells-eq n 28) (ℕ-discrete n 28) 3 _)
     ∙ picks (tells-eq n 10) (ℕ-discrete n 10) 2 _
 
@@ -155,6 +165,47 @@ xcr-tells : (r : Report) → Tells (otherXcr r) ((basicReason r ≡ 55) × (ecxO
 unfolding otherXcr
 xcr-tells r = tells-and (tells-eq (basicReason r) 55) (tells-not (tells-eq (ecxOf r) 0))
 
+-- ---- 19
+
+-- two bits are equal where their digits are, and one comes with another where its digit is at most the other's
+equal-tells : (i j a : ℕ) → Tells (eqb (digit i a) (digit j a)) (bit i a ≡ bit j a)
+equal-tells i j a = tells-as (tells-eq (digit i a) (digit j a)) (ap (λ (d : ℕ). eqb d 1)) (λ e. is-flag (digit i a) (omega arith) ∙ ap flag e ∙ sym (is-flag (digit j a) (omega arith)))
+
+with-tells : (i j a : ℕ) → Tells (leb (digit i a) (digit j a)) (bit i a ≡ true → bit j a ≡ true)
+with-tells i j a =
+    tells-as (tells-leb (digit i a) (digit j a))
+    (λ h e. eq-eqb (digit j a) 1 (let z = eqb-true (digit i a) 1 e in omega arith))
+    (λ f. go (bit i a) refl f)
+  where
+    go : (t : Bool) → bit i a ≡ t → (bit i a ≡ true → bit j a ≡ true) → digit i a ≤ digit j a
+    go true e f = let z = eqb-true (digit j a) 1 (f e) in omega arith
+    go false e f = let z = eqb-false (digit i a) 1 e in omega arith
+
+within-tells : (a b : ℕ) → Tells (eqb (bitAnd a b) a) (Within a b)
+within-tells a b = tells-as (tells-eq (bitAnd a b) a) (within-of a b) (within-eq a b)
+
+-- the core's test is the rule as the request has it, for all numbers
+pub allowed-tells : (supported value : ℕ) → Tells (xcr0Allowed supported value) (Xcr0Allowed supported value)
+unfolding xcr0Allowed
+allowed-tells supported value =
+    tells-as
+    (tells-and (tells-and (tells-and (tells-and (tells-and (tells-and (tells-and (tells-on (bit 0 value)) (with-tells 2 1 value)) (equal-tells 3 4 value)) (equal-tells 5 6 value))
+    (equal-tells 6 7 value)) (with-tells 5 2 value)) (equal-tells 17 18 value)) (within-tells value supported))
+    (λ x. record {
+      x87 = x .0 .0 .0 .0 .0 .0 .0;
+      avx = x .0 .0 .0 .0 .0 .0 .1;
+      mpx = x .0 .0 .0 .0 .0 .1;
+      avx512 = (x .0 .0 .0 .0 .1, x .0 .0 .0 .1);
+      avx512-avx = x .0 .0 .1;
+      amx = x .0 .1;
+      within = x .1;
+    })
+    (λ a. (((((((a .x87, a .avx), a .mpx), a .avx512 .0), a .avx512 .1), a .avx512-avx), a .amx), a .within))
+
+xcr0-tells : (supported : ℕ) (r : Report) → Tells (refusedXcr0 supported r) ((basicReason r ≡ 55) × (Xcr0Allowed supported (edxEax r) → ⊥))
+unfolding refusedXcr0
+xcr0-tells supported r = tells-and (tells-eq (basicReason r) 55) (tells-not (allowed-tells supported (edxEax r)))
+
 -- ---- 17, 8
 
 end-tells : (r : Report) → Tells (pastEnd r) (2 ^ 64 ≤ r .rip + advance r)
@@ -213,15 +264,27 @@ module _ (s : Session) (r : Report) (l : Lawful s) where
   abbrev entryWord : ℕ
   entryWord = valueOf (s .vmcs) VmcsControl32.VMENTRY_CONTROLS
 
-  exit-refuses : Refuses (exitRules (wordsOf s) r) (cond (ownedBitsDiffer (s .vmcs) r) 15 (exitRefusal pair entryWord r))
-  unfolding exitRefusal
+  exit-refuses : Refuses (exitRules (wordsOf s) r) (cond (ownedBitsDiffer (s .vmcs) r) 15 (exitRefusal pair entryWord (s .xcr0 .supported) r))
+  unfolding reasonRefusal exitRefusal
   exit-refuses =
-      ladder
-      (rung 15 (differ-tells s r) ∷ rung 16 (interrupt-tells r) ∷ rung 18 (access-tells r) ∷ rung 20 (xcr-tells r) ∷ rung 19 (tells-eq (basicReason r) 55)
+      subst (λ (n : ℕ). Refuses (exitRules (wordsOf s) r) (cond (ownedBitsDiffer (s .vmcs) r) 15 n))
+      (sym (in-line (noInterrupt r) (otherAccess r) (otherXcr r) (refusedXcr0 (s .xcr0 .supported) r) (eqb (basicReason r) 44) _))
+      (ladder
+      (rung 15 (differ-tells s r) ∷ rung 16 (interrupt-tells r) ∷ rung 18 (access-tells r) ∷ rung 20 (xcr-tells r) ∷ rung 19 (xcr0-tells (s .xcr0 .supported) r)
       ∷ rung 21 (tells-eq (basicReason r) 44) ∷ rung 17 (end-tells r) ∷ [])
       (by 8 (SetsIa32e r × (bit 9 (pair .allowed1) ≡ false)) ∷ []) (eferRefusal pair entryWord r)
       (subst (Refuses (by 8 (SetsIa32e r × (bit 9 (pair .allowed1) ≡ false)) ∷ [])) (sym (efer-number pair entryWord r))
-      (ladder (rung 8 (stuck-tells pair r) ∷ []) [] 0 refl))
+      (ladder (rung 8 (stuck-tells pair r) ∷ []) [] 0 refl)))
+    where
+      -- the numbers of the reason and those after them, as one ladder
+      in-line : (a b c d e : Bool) (m : ℕ) → cond (eqb (cond a 16 (cond b 18 (cond c 20 (cond d 19 (cond e 21 0))))) 0) m (cond a 16 (cond b 18 (cond c 20 (cond d 19 (cond e 21 0)))))
+          ≡ cond {A = ℕ} a 16 (cond b 18 (cond c 20 (cond d 19 (cond e 21 m))))
+      in-line true b c d e m = refl
+      in-line false true c d e m = refl
+      in-line false false true d e m = refl
+      in-line false false false true e m = refl
+      in-line false false false false true m = refl
+      in-line false false false false false m = refl
 
   pub report-refuses : Refuses (reportRules (wordsOf s) r) (reportRefusal s r)
   unfolding reportRefusal
@@ -230,6 +293,6 @@ module _ (s : Session) (r : Report) (l : Lawful s) where
       (ladder (rung 1 (tells-not (tells-eq (s .progress .phase) 2)) ∷ rung 14 (unknown-tells r) ∷ [])
       (cond (bit 31 (r .reason)) [] (exitRules (wordsOf s) r)) _ (ended (bit 31 (r .reason))))
     where
-      ended : (f : Bool) → Refuses (cond f [] (exitRules (wordsOf s) r)) (cond f 0 (cond (ownedBitsDiffer (s .vmcs) r) 15 (exitRefusal pair entryWord r)))
+      ended : (f : Bool) → Refuses (cond f [] (exitRules (wordsOf s) r)) (cond f 0 (cond (ownedBitsDiffer (s .vmcs) r) 15 (exitRefusal pair entryWord (s .xcr0 .supported) r)))
       ended true = refl
       ended false = exit-refuses

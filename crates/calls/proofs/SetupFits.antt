@@ -163,6 +163,9 @@ module _ (block : List ℕ) (bytes : Below 256 block) where
       pair : (o : ℕ) → (low32 (littleEndian 8 (drop o block)) < 2 ^ 32) × (high32 (littleEndian 8 (drop o block)) < 2 ^ 32)
       pair o = (low-fits _, high-fits _ (p8 o))
 
+  pub supported-fits : littleEndian 8 (drop Layout.XCR0_SUPPORTED block) < 2 ^ 64
+  supported-fits = p8 Layout.XCR0_SUPPORTED
+
   pub typed : Typed (msrsOf block)
   unfolding msrsOf
   typed = record { cr0fixed0 = p8 Layout.CR0_FIXED0; cr0fixed1 = p8 Layout.CR0_FIXED1; cr4fixed1 = p8 Layout.CR4_FIXED1 }

@@ -30,6 +30,7 @@ use Rattle.vmcs.proofs.TableTest.{table}
 use Rattle.regs.specs.Registers.{withRegOfIndex}
 use Rattle.regs.specs.declared.RegWritten.{RegWritten}
 use Rattle.vcpu_session.specs.Session.{LAST_ENTRY, withVmcs, withQueue}
+use Rattle.vcpu_session.specs.declared.Xcr0.{Xcr0}
 use Rattle.vcpu_session.specs.declared.Session.{Session}
 use Rattle.vcpu_session.proofs.LawfulLaws.{of-lawful}
 use Rattle.vcpu_events.specs.Queue as Queue
@@ -78,7 +79,7 @@ use Rattle.calls.proofs.Sessions.{hasBuffers, left, entering, sessionSt
 use Rattle.calls.proofs.SetupNumbers.{buffers-of, of-buffers, setup-refuses, same-limits, secondary-set}
 use Rattle.calls.proofs.SetupFits.{typed}
 use Rattle.calls.proofs.Handled.{exit-primary, exit-entry, exit-cr0, exit-cr0-mask, exit-cr4, exit-cr4-mask}
-use Rattle.calls.proofs.ReportNumbers.{picks, phase-agrees, report-refuses}
+use Rattle.calls.proofs.ReportNumbers.{picks, phase-agrees, xcr0-agrees, report-refuses}
 
 -- what is logged of a call on s that comes to o
 abbrev loggedAs : Session → Call → Outcome Session → Logged
@@ -213,6 +214,8 @@ setup-words s r block u =
       cr4 = u .fields VmcsGuestNW.CR4 (lit< tt) i;
       cr4mask = u .fields VmcsControlNW.CR4_GUEST_HOST_MASK (lit< tt) i;
       limits = limitsIn (u .capabilities i);
+      xcr0 = u .xcr0 i;
+      supported = u .supported i;
     }
 
 module _ (t : Tally Event) (s : Session) (block a b msr : List ℕ) (fixed : Typed (msrsOf block)) (h : Sound s) where
@@ -503,6 +506,8 @@ module _ (t : Tally Event) (s : Session) (stack : ℕ) (h : Sound s) where
         cr4 = kept VmcsGuestNW.CR4 (lit< tt) refl a i;
         cr4mask = kept VmcsControlNW.CR4_GUEST_HOST_MASK (lit< tt) refl a i;
         limits = limitsIn (s .capabilities);
+        xcr0 = s .xcr0 .value;
+        supported = s .xcr0 .supported;
       }
 
   -- the reference after an entry that gives this answer
@@ -655,6 +660,8 @@ module _ (s : Session) (e v : ℕ) (found : positionOf encodings e < 154) (h : S
         cr4 = read 0x6804 _ (names .cr4) i;
         cr4mask = read 0x6002 _ (names .cr4mask) i;
         limits = limitsIn (s .capabilities);
+        xcr0 = s .xcr0 .value;
+        supported = s .xcr0 .supported;
       }
 
 abbrev Wide : ℕ → ℕ → Type 0
@@ -766,6 +773,8 @@ module _ (t : Tally Event) (s : Session) (block : List ℕ) (h : Sound s) where
         cr4 = a .fields VmcsGuestNW.CR4 (lit< tt) refl i;
         cr4mask = a .fields VmcsControlNW.CR4_GUEST_HOST_MASK (lit< tt) refl i;
         limits = limitsIn (k .capabilities i);
+        xcr0 = a .xcr0 i .value;
+        supported = k .supported i;
       }
 
   -- the fields of an exit are those that its handling leaves
@@ -806,6 +815,8 @@ module _ (t : Tally Event) (s : Session) (block : List ℕ) (h : Sound s) where
         cr4 = (g VmcsGuestNW.CR4 ∙ exit-cr4 (s .vmcs) (s .capabilities) r z p) i;
         cr4mask = (g VmcsControlNW.CR4_GUEST_HOST_MASK ∙ exit-cr4-mask (s .vmcs) (s .capabilities) r z p) i;
         limits = limitsIn (k .capabilities i);
+        xcr0 = (ap (λ (x : Xcr0). x .value) (a .xcr0) ∙ xcr0-agrees (s .xcr0) r) i;
+        supported = k .supported i;
       }
 
   report-accepted : (f : Bool) → bit 31 (r .reason) ≡ f → reportRefusal s r ≡ 0 → Refuses (ownRules (viewOf t s) report) 0

@@ -137,6 +137,8 @@ wordsOf s =
       cr4 = valueOf (s .vmcs) VmcsGuestNW.CR4;
       cr4mask = valueOf (s .vmcs) VmcsControlNW.CR4_GUEST_HOST_MASK;
       limits = limitsIn (s .capabilities);
+      xcr0 = s .xcr0 .value;
+      supported = s .xcr0 .supported;
     }
 
 -- ---- a list of calls

@@ -4,6 +4,7 @@ use Prim.Native.Nat.{ℕ, _+_, _≤_}
 use mathlib.Core.Path.{_≡_}
 use mathlib.Core.Bool.{Bool, true, false}
 use mathlib.Core.List.{List, [], _∷_, _++_, List·Memᴰ}
+use mathlib.Core.Logic.{_⊎_}
 use lib.Dec.{T}
 use lib.ListN.{length, drop}
 use Rattle.bits.specs.Refuses.{Refuses}
@@ -18,7 +19,7 @@ use Rattle.vcpu_events.specs.declared.Injection.{Injection}
 use Rattle.vcpu_events.specs.declared.Injection.the-variants.{Empty, Held, Written}
 use Rattle.record.specs.Codec.{sessionOf, acceptedOf}
 use Rattle.calls.specs.Moves.{queues, writes}
-use Rattle.calls.specs.Reference.{Call, setup, entry, Event, WellTyped, AllWellTyped, Limits, limitsOf, Reference, start, IsHeld, Fed, referenceAfter, referenceAnswers, rules, eventFields}
+use Rattle.calls.specs.Reference.{Call, setup, entry, Event, WellTyped, AllWellTyped, Limits, limitsOf, Reference, start, IsHeld, Xcr0Allowed, Fed, referenceAfter, referenceAnswers, rules, Words, eventFields}
 use Rattle.calls.specs.Calls.{stepOf, newRecord, after, loggedOf, historyOf, Accepts, Declines, enteredOf, fed, moveOf, tallyOf, written, Logged, answersOf, waitingOf, wordsOf}
 
 -- ---- an entry, by the reference before it
@@ -91,6 +92,12 @@ Unwritten (x ∷ xs) ls = (written x ls ≡ false) × Unwritten xs ls
 abbrev pub judgedFields : List ℕ
 judgedFields = 0x4000 ∷ 0x4002 ∷ 0x401E ∷ 0x400C ∷ 0x4012 ∷ 0x6800 ∷ 0x6804 ∷ 0x6000 ∷ 0x6002 ∷ []
 
+-- ---- XCR0
+
+-- it is 1, or a value that passes the rule
+abbrev pub Loadable : Words → Type 0
+Loadable w = (w .xcr0 ≡ 1) ⊎ Xcr0Allowed (w .supported) (w .xcr0)
+
 -- ---- setup
 
 abbrev pub acceptedSetup : List ℕ → List ℕ → List ℕ → List ℕ → Fed
@@ -160,5 +167,7 @@ pub record WholeList (calls : List Call) (b : List ℕ) : Type 0 where
       → (block a c msr : List ℕ) → List·Memᴰ (acceptedSetup block a c msr) (fed (history calls))
       → (stack : ℕ) → WellTyped (entry stack) → Accepts b (entry stack)
       → Permits (limitsOf block) (enteredOf b stack .vmcs)
+  -- XCR0 before an accepted entry, which the host loads
+  pub loadable : (stack : ℕ) → WellTyped (entry stack) → Accepts b (entry stack) → Loadable (wordsOf (sessionOf b))
   -- the law on waiting, for each event that is queued next
   pub law : (c : Call) → WellTyped c → (e : Event) → moveOf (loggedOf b c) ≡ queues e → WaitLaw (stepOf b c .state) (waitingOf (sessionOf b)) e

@@ -264,6 +264,9 @@ pub record Words : Type 0 where
   pub cr4mask : ℕ
   -- what the processor permits, as setup was told
   pub limits : Limits
+  -- XCR0, and the bits of it that the host supports, as setup was told
+  pub xcr0 : ℕ
+  pub supported : ℕ
 
 pub record Reference : Type 0 where
   pub tally : Tally Event
@@ -301,6 +304,8 @@ start =
           cr0 = noBounds;
           cr4 = noBounds;
         };
+        xcr0 = 0;
+        supported = 0;
       };
     }
 
@@ -334,6 +339,10 @@ NamesApic r = (0x800 ≤ ecxOf r) × (ecxOf r ≤ 0x8FF)
 
 abbrev pub namesApic : (r : Report) → Dec (NamesApic r)
 namesApic r = both (decLe 0x800 (ecxOf r)) (decLe (ecxOf r) 0x8FF)
+
+-- EDX:EAX, the value that XSETBV (reason 55) is given
+abbrev pub edxEax : Report → ℕ
+edxEax r = r .regs .rdx % 2 ^ 32 * 2 ^ 32 + r .regs .rax % 2 ^ 32
 
 -- RDMSR (reason 31) of an APIC register waits for its value
 abbrev pub awaitsValue : (r : Report) → Dec ((basicReason r ≡ 31) × NamesApic r)
@@ -379,9 +388,11 @@ inPhase w phase =
       cr4 = w .cr4;
       cr4mask = w .cr4mask;
       limits = w .limits;
+      xcr0 = w .xcr0;
+      supported = w .supported;
     }
 
--- setup: IF is clear and nothing is blocked (RFLAGS is 2, interruptibility 0). CR0 is asked to be NW, CD and ET (0x60000010), CR4 0
+-- setup: IF is clear and nothing is blocked (RFLAGS is 2, interruptibility 0). CR0 is asked to be NW, CD and ET (0x60000010), CR4 0; XCR0 is 1, as at reset
 abbrev pub atSetup : Words → List ℕ → Words
 atSetup w block =
     record {
@@ -399,6 +410,8 @@ atSetup w block =
       cr4 = crValue (limitsOf block .cr4) (cr4Asked 0);
       cr4mask = crMask (limitsOf block .cr4);
       limits = limitsOf block;
+      xcr0 = 1;
+      supported = littleEndian 8 (drop Layout.XCR0_SUPPORTED block);
     }
 
 abbrev pub eventBy : Injection → List Event → Words → EventFields
@@ -432,10 +445,12 @@ atEntry w stack answer pending =
       cr4 = w .cr4;
       cr4mask = w .cr4mask;
       limits = w .limits;
+      xcr0 = w .xcr0;
+      supported = w .supported;
     }
 
 -- an exit stores the report's values, and clears bit 31 of the entry interruption field. Reason 7 clears interrupt-window exiting. A move to CR0 or CR4 is
--- carried out, and one that turns paging on sets entry bit 9 where it is to be
+-- carried out, and one that turns paging on sets entry bit 9 where it is to be. XSETBV (reason 55) loads EDX:EAX into XCR0
 abbrev pub atExit : Words → Report → Words
 atExit w r =
     record {
@@ -459,6 +474,8 @@ atExit w r =
       cr4 = choose (movToCr 4 r) (crValue (w .limits .cr4) (cr4Asked (movSource r))) (r .cr4);
       cr4mask = choose (movToCr 4 r) (crMask (w .limits .cr4)) (w .cr4mask);
       limits = w .limits;
+      xcr0 = choose (ℕ-discrete (basicReason r) 55) (edxEax r) (w .xcr0);
+      supported = w .supported;
     }
 
 -- a raw write of a field, by its encoding (SDM 3D, appendix B)
@@ -489,6 +506,8 @@ atFieldWrite w encoding value =
       cr4 = choose (ℕ-discrete encoding 0x6804) value (w .cr4);
       cr4mask = choose (ℕ-discrete encoding 0x6002) value (w .cr4mask);
       limits = w .limits;
+      xcr0 = w .xcr0;
+      supported = w .supported;
     }
 
 abbrev pub wordsBy : Reference → Call → Words
@@ -574,13 +593,30 @@ advance r =
     choose (ℕ-discrete (basicReason r) 10) 2
     (choose (ℕ-discrete (basicReason r) 28) 3
     (choose (either (ℕ-discrete (basicReason r) 18) (ℕ-discrete (basicReason r) 30)) (r .length % 2 ^ 8)
-    (choose (both (either (ℕ-discrete (basicReason r) 31) (ℕ-discrete (basicReason r) 32)) (namesApic r)) 2 0)))
+    (choose (both (either (ℕ-discrete (basicReason r) 31) (ℕ-discrete (basicReason r) 32)) (namesApic r)) 2
+    (choose (ℕ-discrete (basicReason r) 55) 3 0))))
 
 -- 14: above 64, or 35, 38 or 42, or a failed entry with another reason than 33, 34 and 41
 abbrev pub UnknownReason : Report → Type 0
 UnknownReason r =
     (64 < basicReason r) ⊎ (basicReason r ≡ 35) ⊎ (basicReason r ≡ 38) ⊎ (basicReason r ≡ 42)
     ⊎ ((bit 31 (r .reason) ≡ true) × (basicReason r ≢ 33) × (basicReason r ≢ 34) × (basicReason r ≢ 41))
+
+-- 19 is its negation: a value that XCR0 may have, within the bits that the host supports (document 02, N1; SDM 1, 13.3; 2D, XSETBV)
+pub record Xcr0Allowed (supported value : ℕ) : Type 0 where
+  -- X87 (bit 0) is set
+  pub x87 : bit 0 value ≡ true
+  -- AVX (2) comes with SSE (1)
+  pub avx : bit 2 value ≡ true → bit 1 value ≡ true
+  -- BNDREG (3) and BNDCSR (4) are equal
+  pub mpx : bit 3 value ≡ bit 4 value
+  -- OPMASK (5), ZMM_HI256 (6) and HI16_ZMM (7) are all equal, and come with AVX
+  pub avx512 : (bit 5 value ≡ bit 6 value) × (bit 6 value ≡ bit 7 value)
+  pub avx512-avx : bit 5 value ≡ true → bit 2 value ≡ true
+  -- TILECFG (17) and TILEDATA (18) are equal
+  pub amx : bit 17 value ≡ bit 18 value
+  -- no bit is set outside the supported ones
+  pub within : Within value supported
 
 -- those of an exit that is not a failed entry. 19: ECX is 0, by the rule before. 8: allowed-1 of the entry controls lacks bit 9, IA-32e mode guest
 abbrev pub exitRules : Words → Report → List Rule
@@ -589,7 +625,7 @@ exitRules w r =
     ∷ by 16 ((basicReason r ≡ 1) × ((bit 31 (r .interruption) ≡ false) ⊎ (r .interruption / 2 ^ 8 % 8 ≡ 1)))
     ∷ by 18 ((basicReason r ≡ 28) × (MovToCr 0 r ⊎ MovToCr 4 r → ⊥))
     ∷ by 20 ((basicReason r ≡ 55) × (ecxOf r ≢ 0))
-    ∷ by 19 (basicReason r ≡ 55)
+    ∷ by 19 ((basicReason r ≡ 55) × (Xcr0Allowed (w .supported) (edxEax r) → ⊥))
     ∷ by 21 (basicReason r ≡ 44)
     ∷ by 17 (2 ^ 64 ≤ r .rip + advance r)
     ∷ by 8 (SetsIa32e r × (bit 9 (w .limits .entry .may) ≡ false))

@@ -1,8 +1,8 @@
 #!/usr/bin/env python3
 """What the programs `edges` and `edges_sessions` must print: usage tools/edges.py PROGRAM > crates/PROGRAM/stdout.
 
-Each line is a call of an exported function, its arguments, and the answer that document 01 gives: the edges of "Worked by hand", and each number of "The operations and
-their numbers" at its boundary, the last call that is accepted and the first that is refused. The answers are written out here, call by call; nothing of the port is read.
+Each line is a call of an exported function, its arguments, and the answer that documents 01 and 02 give: the edges of "Worked by hand", and each number of "The operations
+and their numbers" at its boundary, the last call that is accepted and the first that is refused; and the edges of the requests. The answers are written out here, call by call; nothing of the port is read.
 """
 import sys
 
@@ -104,10 +104,10 @@ def controls():
 
 
 def lengths():
-    """2: a lent length is wrong. A record has 1,469 bytes, a frame 4,096."""
-    edge("new, record of", 1468, Refused(2))
-    edge("new, record of", 1469, None)
-    edge("new, record of", 1470, Refused(2))
+    """2: a lent length is wrong. A record has 1,485 bytes, a frame 4,096."""
+    edge("new, record of", 1484, Refused(2))
+    edge("new, record of", 1485, None)
+    edge("new, record of", 1486, Refused(2))
     for length in [4095, 4097]:
         for name in ["new, A of", "new, B of", "new, MSR of"]:
             edge(name, length, Refused(2))
@@ -188,7 +188,7 @@ def apic_values():
 
 
 # Offsets of capability words in setup's block, and of its yes/no bytes.
-CR0_FIXED1, CR4_FIXED1, SECONDARY, PIN, PRIMARY, EXIT, ENTRY, FLAGS = 190, 206, 214, 222, 230, 238, 246, (254, 255, 256)
+CR0_FIXED1, CR4_FIXED1, SECONDARY, PIN, PRIMARY, EXIT, ENTRY, FLAGS = 190, 206, 214, 222, 230, 238, 246, (262, 263, 264)
 READY = [1]
 
 
@@ -249,7 +249,7 @@ def reports():
     # 18: reason 28 unless it is a move to CR0 or CR4
     for qualification, moves in [(0, 1), (3, 0), (4, 1), (8, 0), (0x10, 0), (0x14, 0), (0x20, 0), (0x30, 0)]:
         edge(name, 28, qualification, 0, 0, READY if moves else Refused(18))
-    # reason 55 with ECX not 0 is 20, with it 0 is 19
+    # reason 55 with ECX not 0 is 20, with it 0 and a value of 0 is 19
     edge(name, 55, 0, 0, 0, Refused(19))
     edge(name, 55, 0, 1, 0, Refused(20))
     edge(name, 55, 0, 2**32, 0, Refused(19))
@@ -286,6 +286,33 @@ def control_registers():
     edge(name, 0x80000000, 0, 0, M64, Refused(17))  # before 8
 
 
+def xcr0():
+    """N1. The reading gives what the record holds, in any phase."""
+    edge("get_xcr0", 0, 0, [0])
+    edge("get_xcr0", 0, M64 - 1, [M64 - 1])
+    edge("get_xcr0", 4, 2, [2])
+    edge("get_xcr0", 5, 1, Refused(2))
+    # the supported bits, EDX:EAX, and whether it passes: X87, SSE and AVX; MPX; AVX-512; AMX; the supported bits alone
+    for supported, value, passes in [
+        (7, 1, True), (7, 3, True), (7, 7, True), (7, 0, False), (7, 2, False), (7, 5, False), (7, 6, False),
+        (7, 0xF, False), (0x1F, 0x19, True), (0x1F, 0x1F, True), (0x1F, 0x9, False), (0x1F, 0x11, False),
+        (0xE7, 0xE7, True), (0xE7, 0xE3, False), (0xE7, 0x27, False), (0xE7, 0xC7, False), (0xE7, 0xA7, False), (0xE7, 0x67, False),
+        (0x60007, 0x60001, True), (0x60007, 0x20001, False), (0x60007, 0x40001, False),
+        (0x207, 0x201, True), (7, 0x201, False), (M64, 0x101, True), (M64, 2**63 + 1, True), (M64, M64, True),
+        (6, 7, False), (6, 1, False), (0, 1, False),
+    ]:
+        edge("exit_report, XSETBV", supported, value >> 32, value % 2**32, 0, 0x1000, [0, value, 0x1003] if passes else Refused(19))
+    # RDX, RAX, RCX and RIP: the low halves count, ECX is looked at first, RIP last
+    name = "exit_report, XSETBV"
+    edge(name, 7, 0, 3, 2**32, 0x1000, [0, 3, 0x1003])
+    edge(name, 7, 0, 3, 1, 0x1000, Refused(20))
+    edge(name, 7, 0, 2, 1, 0x1000, Refused(20))
+    edge(name, 7, M64 - (2**32 - 1), M64 - (2**32 - 1) + 3, 0, 0x1000, [0, 3, 0x1003])
+    edge(name, 7, 0, 3, 0, 2**64 - 4, [0, 3, M64])
+    edge(name, 7, 0, 3, 0, 2**64 - 3, Refused(17))
+    edge(name, 7, 0, 2, 0, 2**64 - 3, Refused(19))
+
+
 def addresses():
     """17: the sum of CS base and address passes 2^64 - 1. Host EFER, CS rights, CS base, address."""
     edge("gla2gva", 0, 0, 1, M64 - 1, [M64])
@@ -296,7 +323,7 @@ def addresses():
 
 PROGRAMS = {
     "edges": [ports, msrs, registers, fields, controls, lengths, addresses],
-    "edges_sessions": [records, queues, entries, apic_values, setups, reports, control_registers],
+    "edges_sessions": [records, queues, entries, apic_values, setups, reports, control_registers, xcr0],
 }
 for part in PROGRAMS[sys.argv[1]]:
     part()

@@ -2,7 +2,7 @@
 """The probes of examples/emulated beside what names them: the header's section "What the host does", docs/FINDINGS.md, docs/PROCESSORS.md and kept.txt.
 
 A name in brackets is a probe; every probe that makes the host do otherwise (the third column) is named by the header or by docs/FINDINGS.md; every probe has
-its result on the two processors that the probes run on. Prints what is wrong; the status is then 1.
+its result on the two processors that it runs on. Prints what is wrong; the status is then 1.
 """
 import re
 import sys
@@ -10,12 +10,16 @@ from pathlib import Path
 
 ROOT = Path(__file__).resolve().parent.parent
 EMULATED = ROOT / "examples" / "emulated"
-MODELS = re.search(r'^OLDEST, NEWEST = "(\w+)", "(\w+)"', (EMULATED / "run").read_text(), re.M).groups()
+OLDEST, OLDEST_XSAVE, NEWEST = re.search(r'^OLDEST, OLDEST_XSAVE, NEWEST = "(\w+)", "(\w+)", "(\w+)"', (EMULATED / "run").read_text(), re.M).groups()
 
 
 def probes():
     rows = [line.split("|") for line in (EMULATED / "probes").read_text().splitlines() if line and line[0] != "#"]
     return {row[0].strip(): row[2].strip() for row in rows}
+
+
+def models_of(probe):
+    return [OLDEST_XSAVE if probe.startswith("xsetbv") else OLDEST, NEWEST]
 
 
 def named(text):
@@ -34,7 +38,7 @@ def main():
     used = named(section) | named(texts["docs/FINDINGS.md"])
     wrong += [f"probe {name} is named neither by the header nor by docs/FINDINGS.md" for name, options in known.items() if options != "-" and name not in used]
     kept = {tuple(line.split(" | ")[:2]) for line in (EMULATED / "kept.txt").read_text().splitlines()}
-    wrong += [f"kept.txt has no result of {name} on {model}" for name in known for model in MODELS if (model, name) not in kept]
+    wrong += [f"kept.txt has no result of {name} on {model}" for name in known for model in models_of(name) if (model, name) not in kept]
     print("\n".join(wrong) if wrong else f"{len(known)} probes, each name in brackets is one")
     return 1 if wrong else 0
 

@@ -27,12 +27,14 @@ fn block() -> [u8; setup::Layout::LENGTH] {
     words::put8(&mut b, setup::Layout::TRUE_ENTRY_CTLS, ANY);
     words::put8(&mut b, setup::Layout::CR0_FIXED1, 0xFFFF_FFFF);
     words::put8(&mut b, setup::Layout::CR4_FIXED1, 0xFFFF_FFFF);
+    words::put8(&mut b, setup::Layout::XCR0_SUPPORTED, 7);
     b
 }
 
-// An exit with this reason, interrupts on, and RCX; CR0 and CR4 are what setup left of them.
+// An exit with this reason, interrupts on, RCX, and 3 in RAX; CR0 and CR4 are what setup left of them.
 fn exit(reason: u32, rcx: u64) -> [u8; report::Layout::LENGTH] {
     let mut b = [0u8; report::Layout::LENGTH];
+    words::put8(&mut b, report::Layout::REGS, 3);
     words::put8(&mut b, report::Layout::REGS + 8, rcx);
     words::put8(&mut b, report::Layout::RFLAGS, 0x202);
     words::put8(&mut b, report::Layout::CR0, 0x10);
@@ -203,7 +205,7 @@ const PAGE_FAULT: Event = Event {
     code: 2,
 };
 
-// Events queued and injected, a held one, an APIC read, a failed entry, and at last pin controls that are not permitted.
+// Events queued and injected, a held one, an APIC read, an XSETBV, a failed entry, and at last pin controls that are not permitted.
 fn run(bytes: &mut [u8; Record::LENGTH], s: Session) -> Session {
     let s = queue(bytes, s, PAGE_FAULT);
     let s = inject(bytes, s, 0x20);
@@ -219,7 +221,7 @@ fn run(bytes: &mut [u8; Record::LENGTH], s: Session) -> Session {
     let s = set_register(bytes, s, 15, 5);
     let s = set_register(bytes, s, 4, 5);
     let s = enter(bytes, s);
-    let s = exit_report(bytes, s, VmxExitReason::HLT, 0);
+    let s = exit_report(bytes, s, VmxExitReason::XSETBV, 0);
     let s = enter(bytes, s);
     let s = exit_report(bytes, s, 65, 0);
     let s = exit_report(bytes, s, 0x8000_0021, 0);

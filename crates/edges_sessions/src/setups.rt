@@ -10,29 +10,6 @@ fn put(block: &mut [u8; Layout::LENGTH], at: usize, value: u64) {
     }
 }
 
-// Capability words that setup accepts. Those of the control words have allowed-0 in the low half.
-fn usual() -> [u8; Layout::LENGTH] {
-    let mut block = [0u8; Layout::LENGTH];
-    put(
-        &mut block,
-        Layout::TRUE_PINBASED_CTLS,
-        0x0000_007F_0000_0016,
-    );
-    put(
-        &mut block,
-        Layout::TRUE_PROCBASED_CTLS,
-        0xFFF9_FFFE_0400_6172,
-    );
-    put(&mut block, Layout::PROCBASED_CTLS2, 0x0010_108A_0000_0000);
-    put(&mut block, Layout::TRUE_EXIT_CTLS, 0x01FF_FFFF_0003_6DFB);
-    put(&mut block, Layout::TRUE_ENTRY_CTLS, 0x0000_F3FF_0000_11FB);
-    put(&mut block, Layout::CR0_FIXED0, 0x8000_0021);
-    put(&mut block, Layout::CR0_FIXED1, 0xFFFF_FFFF);
-    put(&mut block, Layout::CR4_FIXED0, 0x2000);
-    put(&mut block, Layout::CR4_FIXED1, 0x3F_FFFF);
-    block
-}
-
 // Sets a session up in a phase, and prints its phase.
 fn print_setup(block: &[u8; Layout::LENGTH], phase: u8) {
     let mut bytes = crate::in_phase(phase);
@@ -45,7 +22,7 @@ fn print_setup(block: &[u8; Layout::LENGTH], phase: u8) {
 
 // Two words of the block changed, by their offsets.
 fn setup(phase: u8, first: usize, value: u64, second: usize, other: u64) {
-    let mut block = usual();
+    let mut block = crate::usual();
     put(&mut block, first, value);
     put(&mut block, second, other);
     replay::print_call(
@@ -61,7 +38,7 @@ fn word(offset: usize, value: u64) {
 
 // A yes/no byte of the block.
 fn flag(offset: usize, value: u8) {
-    let mut block = usual();
+    let mut block = crate::usual();
     if offset < Layout::LENGTH {
         words::put1(&mut block, offset, value);
     }

@@ -17,8 +17,8 @@ fn byte(x: u64) -> u8 {
     (x % 0x100) as u8
 }
 
-// Where the numbers of the block start, and where it ends. They stand at places 1 to 40 of a case's numbers.
-const OFFSETS: [usize; 41] = [
+// Where the numbers of the block start, and where it ends. They stand at places 1 to 41 of a case's numbers.
+const OFFSETS: [usize; 42] = [
     Layout::HOST_PAT,
     Layout::HOST_EFER,
     Layout::HOST_CR0,
@@ -56,6 +56,7 @@ const OFFSETS: [usize; 41] = [
     Layout::TRUE_PROCBASED_CTLS,
     Layout::TRUE_EXIT_CTLS,
     Layout::TRUE_ENTRY_CTLS,
+    Layout::XCR0_SUPPORTED,
     Layout::RDTSCP,
     Layout::INVPCID,
     Layout::XSAVES,
@@ -69,9 +70,9 @@ fn sum_of_digests(a: &[u8; FRAME_SIZE], b: &[u8; FRAME_SIZE], msr: &[u8; FRAME_S
     first + second + third
 }
 
-// Sets a new session up, with the frames full of the byte at place 41, and prints the answer.
+// Sets a new session up, with the frames full of the byte at place 42, and prints the answer.
 pub fn answer(n: [u64; 46]) {
-    let fill = byte(n[41]);
+    let fill = byte(n[42]);
     let mut bytes = crate::new_record();
     let mut a = [fill; FRAME_SIZE];
     let mut b = [fill; FRAME_SIZE];

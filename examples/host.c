@@ -29,9 +29,12 @@ enum {
 /* Registers by their place. */
 enum { RAX, RCX, RDX };
 
-/* ---- The processor: the fields of its VMCS by encoding, the registers that the guest runs with, and its guest ---- */
+/* Bits of XCR0: the host uses x87 and SSE, and the processor has AVX besides. */
+enum { HOST_XCR0 = 3, SUPPORTED_XCR0 = 7 };
 
-static uint64_t fields[0x8000], guest[16];
+/* ---- The processor: the fields of its VMCS by encoding, the registers that the guest runs with, XCR0, and its guest ---- */
+
+static uint64_t fields[0x8000], guest[16], xcr0;
 
 static uint64_t vmread(uint64_t encoding)
 {
@@ -62,6 +65,9 @@ static void run_guest(const struct exit *e)
     /* on its way to long mode the guest has set EFER.LME, which is not trapped */
     if (e->reason == 28)
         vmwrite(VmcsGuest64_IA32_EFER, 0x100);
+    /* the high half of what the guest loads into XCR0 */
+    if (e->reason == 55)
+        guest[RDX] = 0;
     vmwrite(VmcsGuestNW_RFLAGS, 0x202);
     vmwrite(VmcsReadOnly32_VMEXIT_INSTRUCTION_LEN, e->length);
     vmwrite(VmcsReadOnly32_VMEXIT_INTERRUPTION_INFO, e->reason == 1 ? 0x80000031 : 0);
@@ -143,6 +149,7 @@ static uint32_t setup(uint64_t secondary)
     put(arguments, VCPU_SETUP_HOST_RIP, 8, 0xFFFF800000001000u);
     put(arguments, VCPU_SETUP_ENTRY, 8, 0x8000);
     put(arguments, VCPU_SETUP_EPT_ROOT, 8, 0x1FFF);
+    put(arguments, VCPU_SETUP_XCR0_SUPPORTED, 8, SUPPORTED_XCR0);
     arguments[VCPU_SETUP_RDTSCP] = 1;
     number = vcpu_setup(record, sizeof record, arguments, sizeof arguments, io_a, sizeof io_a, io_b, sizeof io_b, msrs, sizeof msrs);
     if (number == 0) {
@@ -176,11 +183,12 @@ static void enter(void)
     }
     for (i = 0; i < 16; i++)
         guest[i] = reg(i);
+    vcpu_get_xcr0(record, sizeof record, &xcr0);
     count_differing();
     printf("entry: %s, %s", resumed ? "VMRESUME" : "VMLAUNCH", events[event]);
     if (event == VCPU_EVENT_WRITTEN)
         printf(" 0x%08" PRIX64, vmread(VmcsControl32_VMENTRY_INTERRUPTION_INFO_FIELD));
-    printf("; the guest has RIP 0x%" PRIX64 ", RAX 0x%" PRIX64 "\n", vmread(VmcsGuestNW_RIP), guest[RAX]);
+    printf("; the guest has RIP 0x%" PRIX64 ", RAX 0x%" PRIX64 ", XCR0 0x%" PRIX64 "\n", vmread(VmcsGuestNW_RIP), guest[RAX], xcr0);
 }
 
 /* ---- Exits ---- */
@@ -311,11 +319,18 @@ static void hand_in(const char *what)
     act(answer);
 }
 
-static void enter_and_report(const struct exit *e)
+/* Up to an exit and its report. Neither entry nor exit loads XCR0: the host has put the guest's there, and puts back its own. */
+static void run_until(const struct exit *e)
 {
     enter();
     run_guest(e);
+    xcr0 = HOST_XCR0;
     fill_report();
+}
+
+static void enter_and_report(const struct exit *e)
+{
+    run_until(e);
     hand_in(e->what);
 }
 
@@ -337,7 +352,8 @@ static const struct exit exits[] = {
     {"WRMSR of an APIC register", 32, 0, 2, 9, 0x80B},
     {"external interrupt", 1, 0, 0, 0, 0},
     {"preemption timer", 52, 0, 0, 0, 0},
-    {"move to CR4", 28, 0x004, 3, 0x20, 0},
+    {"move to CR4", 28, 0x004, 3, 0x40020, 0},
+    {"XSETBV of 7", 55, 0, 3, 7, 0},
     {"move to CR0", 28, 0x000, 3, 0x80000031, 0},
     {"HLT", 12, 0, 1, 0, 0},
     {"SIPI", 4, 0, 0, 0, 0},
@@ -358,9 +374,7 @@ static void prepare(void)
 /* A report of a reason that no processor gives is refused, and the session runs on; the right report follows. */
 static void report_twice(const struct exit *e)
 {
-    enter();
-    run_guest(e);
-    fill_report();
+    run_until(e);
     put(report, VCPU_REPORT_REASON, 4, 65);
     hand_in("reason 65");
     fill_report();

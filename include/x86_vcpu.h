@@ -69,7 +69,11 @@ extern "C" {
 #define VCPU_REFUSED_SUM 17
 /* Reports: an access to a control register that is no move to CR0 or CR4. */
 #define VCPU_REFUSED_CR_ACCESS 18
-/* Reports: XSETBV of XCR0, and of another register. */
+/*
+ * Reports: XSETBV of a value that XCR0 may not have, and of another register. A value passes where (a) bit 0, x87, is set; (b) bit 2, AVX, comes with bit 1, SSE;
+ * (c) bits 3 and 4, MPX, are equal; (d) bits 5, 6 and 7, AVX-512, are all equal; (e) if they are set, bit 2 is set; (f) bits 17 and 18, AMX, are equal; and
+ * (g) no bit is set that the supported word of setup lacks. Bits 8 to 16 and 19 to 63 are ruled by (g) alone (SDM 1, 13.3; 2D, XSETBV).
+ */
 #define VCPU_REFUSED_XCR0 19
 #define VCPU_REFUSED_XCR 20
 /* Reports: an APIC access. */
@@ -82,7 +86,7 @@ extern "C" {
 /* ---- Sizes ---- */
 
 /* The length in bytes of a session's record. */
-#define VCPU_RECORD_LENGTH 1469
+#define VCPU_RECORD_LENGTH 1485
 
 /* The length in bytes of an intercept frame: I/O bitmap A, I/O bitmap B, MSR bitmaps (SDM 3C, 25.6.4 and 25.6.9). */
 #define VCPU_FRAME_LENGTH 4096
@@ -90,8 +94,8 @@ extern "C" {
 /* ---- Layout of a record ----
  * Nothing lies between the parts, and numbers stand least significant byte first. The host may read and write the registers in place, at
  * VCPU_OFFSET_REGS: any content of their 128 bytes is accepted, and 15 single calls take longer than an entry and a report. Fields are read and written
- * by vcpu_read_field and vcpu_write_field; the phase and the counts are read by vcpu_get_counts. Nothing hands out the waiting events, the kept pairs
- * and the fixed words; their offsets are for tools that keep or show records.
+ * by vcpu_read_field and vcpu_write_field; the phase and the counts are read by vcpu_get_counts, XCR0 by vcpu_get_xcr0. Nothing hands out the waiting events,
+ * the kept pairs, the fixed words and the supported word; their offsets are for tools that keep or show records.
  */
 
 /* Where the session stands: phase (1 byte), launched (1, yes/no), accepted entries (4), entries that held an event (4). */
@@ -118,6 +122,9 @@ extern "C" {
 #define VCPU_OFFSET_PAIRS 1397
 #define VCPU_OFFSET_CR0 1437
 #define VCPU_OFFSET_CR4 1453
+/* The guest's XCR0 (8); kept from setup, its bits that the host supports (8). Any content of both is accepted. */
+#define VCPU_OFFSET_XCR0 1469
+#define VCPU_OFFSET_XCR0_SUPPORTED 1477
 
 /* ---- Phases ---- */
 
@@ -142,6 +149,8 @@ extern "C" {
  *   writes the field; else the first entry is VMfail 7 [main, ept-flags-kept].
  * - Setup writes the host's SYSENTER fields (0x4C00, 0x6C10, 0x6C12) as 0, which every exit loads. A host that uses SYSENTER writes them by vcpu_write_field and
  *   then the fields [main, sysenter-zero].
+ * - The supported word of setup is CPUID leaf 0xD, subleaf 0, EDX:EAX, or has fewer bits; without XSAVE it is 0. A bit that the processor lacks passes the core,
+ *   and the host's own XSETBV then faults [xsetbv, xsetbv-all-bits].
  * - It writes the fields of setup once. Alive in the record after that are those that a report brings and those that a call writes; the guest's others (selectors,
  *   limits, GDTR, IDTR, rights and bases but for CS and the rights of SS, ..) stay there as setup wrote them, while the guest changes its own [fields-again].
  *
@@ -158,7 +167,12 @@ extern "C" {
  *   guest comes to the instruction again [fault, fault-queued, fault-and-interrupt].
  * - Vector 2 goes in at once. The host queues it only while neither bit 0 nor bit 1 of interruptibility (0x4824) is set [nmi-shadow, nmi-shadow-at-once].
  * - It loads all registers, and CR2 and the x87 and SSE state, which are in neither record nor VMCS [long-mode, main]; and what else guest and host share and no
- *   probe has a use of: DR0 to DR3 and DR6, the MSRs of SYSCALL, SWAPGS and RDTSCP, XCR0, IA32_XSS and the state that these add.
+ *   probe has a use of: DR0 to DR3 and DR6, PKRU, the MSRs of SYSCALL, SWAPGS and RDTSCP, IA32_XFD (0x1C4), IA32_XFD_ERR (0x1C5), IA32_XSS and the state that it
+ *   adds.
+ * - Where the processor has XSAVE it loads XCR0 with what vcpu_get_xcr0 gives, at the first entry too, and after the exit its own as it needs it: by XSETBV, for
+ *   which its CR4, setup's too, has OSXSAVE. No entry or exit changes XCR0, and the guest reads it without an exit [xsetbv, xsetbv-not-loaded, xsetbv-left].
+ * - It saves and loads the state that XCR0 adds (YMM, ZMM, ..) while the guest's XCR0 is loaded: with its own, XSAVE leaves out what that lacks. The host of
+ *   examples/emulated uses none of this state, so that it stays in the processor [xsetbv].
  * - It enters by VMLAUNCH where the VMCS is clear and by VMRESUME where it was launched. After VMCLEAR that is VMLAUNCH whatever *resumed says
  *   [vmcs-moved, vmcs-moved-resumed]. Another VMCS is clear too, and first gets all fields of the old one, by VMREAD, host RSP among them
  *   [another-vmcs, another-vmcs-not-copied]; on another processor the host's own fields (0x6C02, 0x6C08, ..) by vcpu_write_field besides.
@@ -169,8 +183,12 @@ extern "C" {
  * - The report has what the processor has, but of interruptibility (0x4824) bits 0 and 1 alone. An event is held while any bit is set, and blocking by NMI (bit 3)
  *   does not close the interrupt window: exits of reason 7 would follow one another without end, in an NMI's handler and after it, since IRET does not clear
  *   the bit while NMIs exit [nmi-handler, nmi-handler-reported, nmi-return, nmi-return-reported].
- * - Blocking by STI and MOV SS (bits 0 and 1) ends with one instruction. Where core or host carry that out (reasons 10, 18, 28, 30, 31 and 32 among them) the host
- *   clears both bits in report and VMCS [sti-exits, sti-exits-kept, nmi-mov-ss, nmi-mov-ss-kept], at other exits it leaves them [sti-shadow].
+ * - Blocking by STI and MOV SS (bits 0 and 1) ends with one instruction. Where core or host carry that out (reasons 10, 18, 28, 30, 31, 32 and 55 among them) the
+ *   host clears both bits in report and VMCS [sti-exits, sti-exits-kept, nmi-mov-ss, nmi-mov-ss-kept], at other exits it leaves them [sti-shadow].
+ * - At reason 10 the report has CPUID as the guest is to see it. ECX bit 27 of leaf 1 is the guest's CR4.OSXSAVE, which tells its programs whether XGETBV is #UD
+ *   [xsetbv, xsetbv-host-osxsave]. Leaf 0xD is that with the guest's XCR0 and IA32_XSS loaded, on which the sizes in EBX depend: by the host's the guest makes its
+ *   XSAVE area too small [xsetbv, xsetbv-host-size]. EDX:EAX of subleaf 0 have no bit that the supported word of setup lacks, else the guest loads what CPUID
+ *   offers and its report is refused by VCPU_REFUSED_XCR0 [xsetbv-fewer, xsetbv-fewer-offered].
  * - After vcpu_exit_report it writes RIP (0x681E); at reason 7 the primary controls; at reason 52 the preemption timer (0x482E); at a move to CR4 0x6804, 0x6006
  *   and 0x6002; at a move to CR0 0x6800, 0x6004, 0x6000, EFER (0x2806) and the entry controls (0x4012), these two as follows.
  * - At a move to CR0 the core sets LMA with PG, whatever LME is, and never clears it; to a processor LMA is LME and PG. Where the record's EFER says otherwise the
@@ -182,6 +200,8 @@ extern "C" {
  *   the four entries that CR3 points to in the guest's memory [pae, pae-kept, pae-no-pdptes].
  * - The core tests no value that a guest moves to CR0 or CR4: what a processor would refuse by vector 13 makes the next entry fail, or is dropped
  *   [pg-without-pe, cr4-reserved].
+ * - XSETBV of a value that breaks the rule of VCPU_REFUSED_XCR0, or of another register, is vector 13 to a processor. Here its report is refused and the session
+ *   runs on [xsetbv-refused]: the host gives it up, or reports the exit under a reason that is Halt and writes the fault as above, with code 0 (no probe).
  * - IDT-vectoring information (0x4408) with bit 31 names an event whose delivery the exit ended. What came of the guest's instruction comes again by itself,
  *   but for a debug trap, which no probe has [delivery-own, delivery-int, delivery-int3]. An interrupt, an NMI and what the entry put in are queued again, with
  *   the code of 0x440A where bit 11 is set, and then stand last; with vectors 1, 3 and 4 RIP goes on by the exit's instruction length
@@ -196,6 +216,7 @@ extern "C" {
 
 /* ---- Sessions ----
  * A record is tested before anything else: every function that takes one but vcpu_new answers VCPU_REFUSED_BYTES first.
+ * The guest's XCR0 is a number in the record, and the core never loads it: the host does, before the first entry and again after an accepted report of reason 55.
  */
 
 /*
@@ -210,7 +231,7 @@ uint32_t vcpu_new(uint8_t *record, size_t length, uint8_t *a, size_t a_length, u
  */
 
 /* The length in bytes of the block. */
-#define VCPU_SETUP_LENGTH 257
+#define VCPU_SETUP_LENGTH 265
 
 /* The host's state, which an exit restores: PAT, EFER, CR0, CR3, CR4 (8 bytes each). */
 #define VCPU_SETUP_HOST_PAT 0
@@ -246,14 +267,18 @@ uint32_t vcpu_new(uint8_t *record, size_t length, uint8_t *a, size_t a_length, u
  * 0x486 to 0x489 (CR0 fixed-0 and fixed-1, CR4 fixed-0 and fixed-1), 0x48B (secondary), 0x48D to 0x490 (TRUE pin, primary, exit, entry).
  */
 #define VCPU_SETUP_MSRS 150
+/* The supported word (8): the bits that the guest's XCR0 may have, CPUID leaf 0xD, subleaf 0, EDX:EAX, or less. */
+#define VCPU_SETUP_XCR0_SUPPORTED 254
 /* Yes/no bytes: whether CPUID offers the guest RDTSCP, INVPCID and XSAVES. */
-#define VCPU_SETUP_RDTSCP 254
-#define VCPU_SETUP_INVPCID 255
-#define VCPU_SETUP_XSAVES 256
+#define VCPU_SETUP_RDTSCP 262
+#define VCPU_SETUP_INVPCID 263
+#define VCPU_SETUP_XSAVES 264
 
 /*
  * Sets a fresh session up: the fields of host, guest and controls are written, the pairs of the TRUE words and the fixed bits are kept, and the
  * session is ready. To what the frames hold it adds the intercepts of port 0x604 and of reads and writes of MSRs 0xE1 and 0x800 to 0x83F.
+ * The supported word is kept and not tested: any is accepted, and where it lacks bit 0 no value of XSETBV passes. XCR0 is stored as 1, whatever the word and the
+ * host's XCR0 are.
  * Refusals: VCPU_REFUSED_BYTES (record, block, a frame's length), VCPU_REFUSED_PHASE (not fresh), VCPU_REFUSED_PAIR (any of the five pairs, CR0 or
  * CR4: a bit must be 1 and may not be); then by word, pin, primary, secondary, exit, entry: VCPU_REFUSED_SET, VCPU_REFUSED_CLEAR.
  */
@@ -413,7 +438,7 @@ uint32_t vcpu_entry(uint8_t *record, size_t length, uint64_t host_stack, uint8_t
 #define VCPU_REPORT_INSTRUCTION_LENGTH 216
 #define VCPU_REPORT_INTERRUPTION 220
 #define VCPU_REPORT_ERROR_CODE 224
-/* What CPUID gives the host for the guest's EAX and ECX (4 each); it is looked at for a CPUID exit alone. */
+/* CPUID for the guest's EAX and ECX (4 each), leaves 1 and 0xD as "What the host does" says; it is looked at for a CPUID exit alone. */
 #define VCPU_REPORT_CPUID_EAX 228
 #define VCPU_REPORT_CPUID_EBX 232
 #define VCPU_REPORT_CPUID_ECX 236
@@ -450,7 +475,8 @@ uint32_t vcpu_entry(uint8_t *record, size_t length, uint64_t host_stack, uint8_t
 
 /*
  * Takes what an exit reports and answers what the host is to do. The session is then ready, waiting or ended; a refused report leaves it running.
- * RIP is advanced past CPUID, VMCALL, moves to CR0 and CR4, every I/O instruction and accesses of APIC registers, and at no other exit.
+ * RIP is advanced past CPUID, VMCALL, XSETBV, moves to CR0 and CR4, every I/O instruction and accesses of APIC registers, and at no other exit.
+ * XSETBV (reason 55) with ECX 0 stores EDX:EAX as the guest's XCR0; the upper halves of RAX, RCX and RDX are not looked at.
  * Refusals: VCPU_REFUSED_BYTES (record or block), VCPU_REFUSED_PHASE (not running), VCPU_REFUSED_REASON, VCPU_REFUSED_OWNED_BITS,
  * VCPU_REFUSED_INTERRUPT, VCPU_REFUSED_CR_ACCESS, VCPU_REFUSED_XCR, VCPU_REFUSED_XCR0, VCPU_REFUSED_APIC_ACCESS, VCPU_REFUSED_SUM, VCPU_REFUSED_SET.
  */
@@ -482,6 +508,12 @@ uint32_t vcpu_set_reg_of_index(uint8_t *record, size_t length, uint64_t index, u
  */
 uint32_t vcpu_get_counts(const uint8_t *record, size_t length, uint8_t *phase, uint8_t *launched, uint8_t *waiting, uint32_t *entries,
                          uint32_t *held);
+
+/*
+ * The guest's XCR0, in any phase: 0 while the session is fresh, 1 from setup on, then what the last accepted XSETBV brought.
+ * Refusals: VCPU_REFUSED_BYTES.
+ */
+uint32_t vcpu_get_xcr0(const uint8_t *record, size_t length, uint64_t *xcr0);
 
 /*
  * The mode of the guest's CPU, told by LMA of the IA32_EFER given, the guest's CS access rights and CR0. With the host's, as in the Rust, it is
@@ -564,6 +596,7 @@ uint32_t vcpu_set_msr_intercept_of_range(uint8_t *frame, size_t length, uint32_t
     F(vcpu_get_reg_of_index, 64)            \
     F(vcpu_set_reg_of_index, 64)            \
     F(vcpu_get_counts, 64)                  \
+    F(vcpu_get_xcr0, 64)                    \
     F(vcpu_get_cpu_mode, 64)                \
     F(vcpu_get_ptw_info, 64)                \
     F(vcpu_gla2gva, 64)                     \

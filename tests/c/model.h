@@ -31,7 +31,9 @@ enum { FIELDS = sizeof fields / sizeof fields[0], EVENTS = 64 };
     F(CODES, EVENTS * 4)  \
     F(PAIRS, 5 * 8)       \
     F(CR0, 2 * 8)         \
-    F(CR4, 2 * 8)
+    F(CR4, 2 * 8)         \
+    F(XCR0, 8)            \
+    F(XCR0_SUPPORTED, 8)
 
 /* R_PHASE and so on: where each part starts, one byte past the last one of the part before it; N: the record's length. */
 #define START(name, length) R_##name, R_##name##_LAST = R_##name + (length) - 1,

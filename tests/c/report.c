@@ -1,7 +1,7 @@
 /*
  * Exit reports, from C: 400,000 calls (or as many as the first argument says) of every reason on records in every phase and on wrong blocks,
- * each against a model written from document 01 and the manual. Every byte of the record and every word of the answer is compared; the calls
- * that got each number and each answer are counted and printed.
+ * each against a model written from documents 01 and 02 and the manual. Every byte of the record and every word of the answer is compared; the
+ * calls that got each number and each answer are counted and printed, and for XSETBV the values that break each clause of its rule alone.
  */
 #include "x86_vcpu.h"
 
@@ -74,6 +74,11 @@ static int move_to(unsigned n)
     return (p[VCPU_REPORT_QUALIFICATION] & 0x3F) == n;
 }
 
+static uint64_t edx_eax(void)
+{
+    return reg(2) << 32 | (uint32_t)reg(0);
+}
+
 static uint64_t moved(void)
 {
     unsigned i = p[VCPU_REPORT_QUALIFICATION + 1] & 15;
@@ -87,6 +92,7 @@ static uint64_t advance(void)
     case 10:
         return 2;
     case 28:
+    case 55:
         return 3;
     case 18:
     case 30:
@@ -102,6 +108,24 @@ static uint64_t advance(void)
 static int enters_long_mode(void)
 {
     return reason() == 28 && move_to(0) && moved() >> 31 & 1 && (get(p, VCPU_REPORT_EFER, 8) & 0x500) != 0x500;
+}
+
+/* The clauses of the rule of XCR0, (a) to (g). */
+enum { CLAUSES = 7 };
+
+/* The clauses that a value breaks: bit 0 for (a), and so on. */
+static unsigned breaks(uint64_t supported, uint64_t value)
+{
+    unsigned mpx = value >> 3 & 3, avx512 = value >> 5 & 7, amx = value >> 17 & 3, broken = 0;
+
+    broken |= (unsigned)!(value & 1);                       /* (a) x87 is set */
+    broken |= (unsigned)((value & 6) == 4) << 1;            /* (b) AVX comes with SSE */
+    broken |= (unsigned)(mpx != 0 && mpx != 3) << 2;        /* (c) bits 3 and 4 are equal */
+    broken |= (unsigned)(avx512 != 0 && avx512 != 7) << 3;  /* (d) bits 5, 6 and 7 are equal */
+    broken |= (unsigned)(avx512 == 7 && !(value & 4)) << 4; /* (e) and come with AVX */
+    broken |= (unsigned)(amx != 0 && amx != 3) << 5;        /* (f) bits 17 and 18 are equal */
+    broken |= (unsigned)((value & ~supported) != 0) << 6;   /* (g) no bit is set that is not supported */
+    return broken;
 }
 
 static uint32_t model_number(const uint8_t *r)
@@ -120,8 +144,10 @@ static uint32_t model_number(const uint8_t *r)
         return 16;
     if (n == 28 && !move_to(0) && !move_to(4))
         return 18;
-    if (n == 55)
-        return (uint32_t)reg(1) ? 20 : 19;
+    if (n == 55 && (uint32_t)reg(1))
+        return 20;
+    if (n == 55 && breaks(get(r, R_XCR0_SUPPORTED, L_XCR0_SUPPORTED), edx_eax()))
+        return 19;
     if (n == 44)
         return 21;
     if (get(p, VCPU_REPORT_RIP, 8) > ~(uint64_t)0 - advance())
@@ -241,7 +267,7 @@ static void model_msr(uint8_t *r, uint64_t *w)
     w[0] = apic() ? (write ? VCPU_ANSWER_APIC_WRITE : VCPU_ANSWER_APIC_READ) : write ? VCPU_ANSWER_SYS_REG_WRITE : VCPU_ANSWER_SYS_REG_READ;
     w[1] = apic() ? (uint32_t)reg(1) : reg(1);
     if (write)
-        w[2] = reg(2) << 32 | (uint32_t)reg(0);
+        w[2] = edx_eax();
     else if (apic())
         r[R_PHASE] = VCPU_WAITING;
 }
@@ -292,6 +318,9 @@ static void model(uint8_t *r, uint64_t *w)
     case 52:
         set_field(r, TIMER, 1000000);
         break;
+    case 55:
+        put(r, R_XCR0, L_XCR0, edx_eax());
+        break;
     default:
         w[0] = VCPU_ANSWER_HALT;
     }
@@ -300,8 +329,14 @@ static void model(uint8_t *r, uint64_t *w)
 
 /* ---- inputs ---- */
 
+static uint64_t few(const uint64_t *list, unsigned n)
+{
+    return below(3) ? list[below(n)] : any();
+}
+
 static void any_record(uint8_t *r)
 {
+    static const uint64_t supported[] = {0, 1, 3, 6, 7, 0x1F, 0xE7, 0x207, 0x60007, 0x602E7, 0x602FF, ~(uint64_t)0};
     unsigned i;
 
     for (i = 0; i < N; i++)
@@ -310,11 +345,38 @@ static void any_record(uint8_t *r)
     r[R_LAUNCHED] = (uint8_t)(below(64) ? below(2) : 2);
     put(r, R_HELD, L_HELD, get(r, R_ENTRIES, L_ENTRIES) / 2);
     r[R_WAITING] = (uint8_t)below(EVENTS + 1);
+    put(r, R_XCR0_SUPPORTED, L_XCR0_SUPPORTED, few(supported, 12));
 }
 
-static uint64_t few(const uint64_t *list, unsigned n)
+/* A value near the rule of XCR0: some of its groups and some other bits, as far as they are supported; in half of the cases one bit is off. */
+static uint64_t near_rule(uint64_t supported)
 {
-    return below(3) ? list[below(n)] : any();
+    static const uint64_t groups[] = {2, 6, 0x18, 0xE6, 0x60000};
+    static const uint8_t ruled[] = {0, 1, 2, 3, 4, 5, 6, 7, 17, 18};
+    uint64_t x = 1;
+    unsigned i;
+
+    for (i = 0; i < 5; i++)
+        if (below(2) && !(groups[i] & ~supported))
+            x |= groups[i];
+    if (below(2))
+        x |= any() & supported & ~(uint64_t)0x600FF;
+    if (below(2))
+        x ^= (uint64_t)1 << (below(4) ? ruled[below(10)] : below(64));
+    return x;
+}
+
+/* XSETBV, mostly of XCR0, with anything in the high halves of its three registers; at times where RIP is near its end. */
+static void any_xsetbv(uint8_t *b, const uint8_t *r)
+{
+    uint64_t value = near_rule(get(r, R_XCR0_SUPPORTED, L_XCR0_SUPPORTED));
+
+    put(b, REG_AT(0), 8, any() << 32 | (uint32_t)value);
+    put(b, REG_AT(2), 8, any() << 32 | value >> 32);
+    if (below(8))
+        put(b, REG_AT(1), 8, any() << 32);
+    if (below(8) == 0)
+        put(b, VCPU_REPORT_RIP, 8, ~(uint64_t)0 - below(6));
 }
 
 static void any_block(uint8_t *b, const uint8_t *r)
@@ -322,8 +384,8 @@ static void any_block(uint8_t *b, const uint8_t *r)
     static const uint64_t leaves[] = {0, 1, 7, 0x16, 0x40000000, 0x40000001, 0x100000001, 0x2000, 0x12000};
     static const uint64_t msrs[] = {0, 0x7FF, 0x800, 0x83F, 0x8FF, 0x900, 0x500000800, 0x100000000};
     static const uint64_t quals[] = {0x06040001, 0x06040009, 0x00600000, 0x00600003, 0x00600007, 0x00600010, 0x00600020, 0x000, 0x004, 0x400, 0x104, 0x010, 0x020, 0x003};
-    static const unsigned common[] = {1, 7, 10, 18, 28, 28, 28, 30, 30, 31, 32, 44, 52, 55, 33, 34, 41};
-    unsigned i, n = below(3) ? common[below(17)] : below(67);
+    static const unsigned common[] = {1, 7, 10, 18, 28, 28, 28, 30, 30, 31, 32, 44, 52, 55, 55, 55, 33, 34, 41};
+    unsigned i, n = below(3) ? common[below(19)] : below(67);
 
     for (i = 0; i < BLOCK; i++)
         b[i] = (uint8_t)(any() >> 24);
@@ -333,6 +395,12 @@ static void any_block(uint8_t *b, const uint8_t *r)
     put(b, REG_AT(1), 8, few(msrs, 8));
     put(b, VCPU_REPORT_QUALIFICATION, 8, few(quals, 14));
     put(b, VCPU_REPORT_RIP, 8, below(8) ? any() >> below(60) : ~(uint64_t)0 - below(260));
+    if (n == 30 && below(16) == 0) {
+        put(b, VCPU_REPORT_QUALIFICATION, 8, quals[0]);
+        put(b, REG_AT(0), 8, 0x2000); /* the machine is turned off */
+    }
+    if (n == 55)
+        any_xsetbv(b, r);
     if (below(8)) {
         uint64_t m0 = field(r, CR0_MASK), m4 = field(r, CR4_MASK);
 
@@ -349,7 +417,17 @@ static void any_block(uint8_t *b, const uint8_t *r)
 
 static uint8_t r[N], s[N], block[BLOCK + 1];
 static uint64_t answer[WORDS], expected[WORDS];
-static unsigned long numbers[32], answers[12];
+/* How many calls got each number and each answer, and of XSETBV which values: those that break one clause alone, and last those that pass. */
+static unsigned long numbers[32], answers[12], values[CLAUSES + 1];
+
+static void count_value(void)
+{
+    unsigned broken = breaks(get(s, R_XCR0_SUPPORTED, L_XCR0_SUPPORTED), edx_eax()), k;
+
+    for (k = 0; k < CLAUSES; k++)
+        values[k] += broken == 1u << k;
+    values[CLAUSES] += broken == 0;
+}
 
 static void once(void)
 {
@@ -373,41 +451,56 @@ static void once(void)
     numbers[number]++;
     if (number == 0)
         answers[answer[0]]++;
+    if (number == 19 || (number == 0 && reason() == 55))
+        count_value();
 }
 
 /* ---- the header's numbers, one small report for each ---- */
 
-/* A session that runs, set up from capability words whose entry controls may not have bit 9. */
-static void running(void)
+static void go(void)
+{
+    uint8_t resumed, event;
+
+    CHECK(vcpu_entry(r, N, 0, &resumed, &event) == 0);
+}
+
+/* A session that runs, set up with this supported word and from capability words whose entry controls may not have bit 9. */
+static void running(uint64_t supported)
 {
     static const uint64_t msrs[13] = {
         0x7F00000016, 0xFFF9FFFE0401E172u, 0x1FFFFFF00036DFF, 0x3FFFF000011FF, 0x80000021, 0xFFFFFFFF, 0x2000, 0x3767FF,
         0x55CFEFFF00000000, 0x7F00000016, 0xFFF9FFFE04006172u, 0x1FFFFFF00036DFB, 0x3FDFF000011FB,
     };
     static uint8_t frames[3][VCPU_FRAME_LENGTH], arguments[VCPU_SETUP_LENGTH];
-    uint8_t resumed, event;
     unsigned i;
 
     CHECK(vcpu_new(r, N, frames[0], VCPU_FRAME_LENGTH, frames[1], VCPU_FRAME_LENGTH, frames[2], VCPU_FRAME_LENGTH) == 0);
     for (i = 0; i < 13; i++)
         put(arguments, VCPU_SETUP_MSRS + 8 * i, 8, msrs[i]);
+    put(arguments, VCPU_SETUP_XCR0_SUPPORTED, 8, supported);
     CHECK(vcpu_setup(r, N, arguments, sizeof arguments, frames[0], VCPU_FRAME_LENGTH, frames[1], VCPU_FRAME_LENGTH, frames[2], VCPU_FRAME_LENGTH) == 0);
-    CHECK(vcpu_entry(r, N, 0, &resumed, &event) == 0);
+    go();
 }
 
-static uint32_t told(unsigned reason, unsigned at, unsigned size, uint64_t x)
+/* A report of this reason, otherwise all zero. */
+static void plain_block(uint32_t reason)
 {
     memset(block, 0, BLOCK);
     put(block, VCPU_REPORT_CR0, 8, field(r, CR0));
     put(block, VCPU_REPORT_CR4, 8, field(r, CR4));
     put(block, VCPU_REPORT_REASON, 4, reason);
+}
+
+static uint32_t told(uint32_t reason, unsigned at, unsigned size, uint64_t x)
+{
+    plain_block(reason);
     put(block, at, size, x);
     return vcpu_exit_report(r, N, block, BLOCK, answer);
 }
 
 static void header_numbers(void)
 {
-    running();
+    running(7);
     CHECK(told(65, VCPU_REPORT_RSP, 8, 0) == VCPU_REFUSED_REASON);
     CHECK(told(12, VCPU_REPORT_CR0, 8, field(r, CR0) ^ 0x20) == VCPU_REFUSED_OWNED_BITS);
     CHECK(told(1, VCPU_REPORT_INTERRUPTION, 4, 0x31) == VCPU_REFUSED_INTERRUPT);
@@ -422,11 +515,129 @@ static void header_numbers(void)
     CHECK(told(12, VCPU_REPORT_RSP, 8, 0) == VCPU_REFUSED_PHASE);
 }
 
+/* ---- XSETBV, by document 02 ---- */
+
+/* A report of it: RAX, RCX and RDX, RIP, and the instruction length that is reported. A refused one changes nothing. */
+static uint32_t xsetbv(uint64_t rax, uint64_t rcx, uint64_t rdx, uint64_t rip, uint32_t length)
+{
+    uint32_t number;
+
+    plain_block(55);
+    put(block, REG_AT(0), 8, rax);
+    put(block, REG_AT(1), 8, rcx);
+    put(block, REG_AT(2), 8, rdx);
+    put(block, VCPU_REPORT_RIP, 8, rip);
+    put(block, VCPU_REPORT_INSTRUCTION_LENGTH, 4, length);
+    memcpy(s, r, N);
+    number = vcpu_exit_report(r, N, block, BLOCK, answer);
+    CHECK(number == 0 || memcmp(r, s, N) == 0);
+    return number;
+}
+
+static uint64_t xcr0(void)
+{
+    uint64_t x = 99;
+
+    CHECK(vcpu_get_xcr0(r, N, &x) == 0);
+    return x;
+}
+
+/* The number that a value gets, twice: the second time with high halves that do not count. A refused one leaves XCR0 as setup stored it. */
+static uint32_t rule(uint64_t supported, uint64_t value)
+{
+    uint64_t high = 0xFFFFFFFF00000000u;
+    uint32_t number;
+
+    running(supported);
+    number = xsetbv((uint32_t)value, 0, value >> 32, 0x1000, 3);
+    CHECK(xcr0() == (number ? 1 : value));
+    running(supported);
+    CHECK(xsetbv(high | value, high, high | value >> 32, 0x1000, 3) == number);
+    CHECK(xcr0() == (number ? 1 : value));
+    CHECK(get(r, R_XCR0_SUPPORTED, L_XCR0_SUPPORTED) == supported);
+    return number;
+}
+
+static void values_of_xcr0(void)
+{
+    CHECK(rule(7, 1) == 0);
+    CHECK(rule(7, 3) == 0);
+    CHECK(rule(7, 7) == 0);
+    CHECK(rule(7, 0) == 19);
+    CHECK(rule(7, 2) == 19);
+    CHECK(rule(7, 5) == 19);
+    CHECK(rule(7, 6) == 19);
+    CHECK(rule(7, 0xF) == 19);
+    CHECK(rule(0x1F, 0x19) == 0);
+    CHECK(rule(0x1F, 0x1F) == 0);
+    CHECK(rule(0x1F, 0x9) == 19);
+    CHECK(rule(0x1F, 0x11) == 19);
+    CHECK(rule(0xE7, 0xE7) == 0);
+    CHECK(rule(0xE7, 0xE3) == 19);
+    CHECK(rule(0xE7, 0x27) == 19);
+    CHECK(rule(0xE7, 0xC7) == 19);
+    CHECK(rule(0xE7, 0xA7) == 19);
+    CHECK(rule(0x60007, 0x60001) == 0);
+    CHECK(rule(0x60007, 0x20001) == 19);
+    CHECK(rule(0x60007, 0x40001) == 19);
+    CHECK(rule(0x207, 0x201) == 0);
+    CHECK(rule(7, 0x201) == 19);
+    CHECK(rule(~(uint64_t)0, 0x101) == 0);
+    CHECK(rule(~(uint64_t)0, 0x8000000000000001u) == 0);
+    CHECK(rule(~(uint64_t)0, ~(uint64_t)0) == 0);
+    CHECK(rule(6, 7) == 19);
+    CHECK(rule(6, 1) == 19);
+    CHECK(rule(0, 1) == 19);
+    /* beside document 02's: bit 7 apart from two equal ones, AVX without the AVX-512 that is supported, a bit of EDX that is not */
+    CHECK(rule(0xE7, 0x67) == 19);
+    CHECK(rule(0xE7, 7) == 0);
+    CHECK(rule(7, 0x100000001) == 19);
+}
+
+/* The order of the numbers, and where RIP goes, whatever instruction length is reported. */
+static void around_the_rule(void)
+{
+    static const uint32_t lengths[] = {0, 3, 15, 0xFFFFFFFF};
+    uint64_t end = ~(uint64_t)0; /* 2^64 - 1 */
+    unsigned i, k;
+
+    for (i = 0; i < 4; i++) {
+        running(7);
+        CHECK(xsetbv(7, 1, 0, end, lengths[i]) == 20);
+        CHECK(xsetbv(5, 0x100000001, 0, end, lengths[i]) == 20);
+        CHECK(xsetbv(5, 0, 0, end - 2, lengths[i]) == 19);
+        CHECK(xsetbv(7, 0, 0, end - 2, lengths[i]) == 17);
+        CHECK(xsetbv(7, 0x100000000, 0, end - 3, lengths[i]) == 0);
+        CHECK(xcr0() == 7 && field(r, RIP) == end && r[R_PHASE] == VCPU_READY);
+        for (k = 0; k < WORDS; k++)
+            CHECK(answer[k] == 0);
+        CHECK(xsetbv(7, 0, 0, 0, 3) == 1);
+    }
+}
+
+/* The last accepted value stays: over other exits, and where the entry fails. */
+static void kept_xcr0(void)
+{
+    running(7);
+    CHECK(xsetbv(7, 0, 0, 0, 3) == 0);
+    go();
+    CHECK(told(10, VCPU_REPORT_RSP, 8, 0) == 0 && xcr0() == 7);
+    go();
+    CHECK(xsetbv(3, 0, 0, 0, 3) == 0 && xcr0() == 3);
+    go();
+    CHECK(told(0x80000037, VCPU_REPORT_RSP, 8, 0) == 14);
+    CHECK(told(0x80000021, REG_AT(0), 8, 7) == 0 && answer[0] == VCPU_ANSWER_FAIL_ENTRY);
+    CHECK(xcr0() == 3 && get(r, R_XCR0_SUPPORTED, L_XCR0_SUPPORTED) == 7);
+}
+
 int main(int argc, char **argv)
 {
     unsigned long calls = argc > 1 ? strtoul(argv[1], 0, 10) : 400000, i;
 
     header_numbers();
+    values_of_xcr0();
+    around_the_rule();
+    kept_xcr0();
     for (i = 0; i < calls; i++)
         once();
     for (i = 0; i < 32; i++)
@@ -436,6 +647,12 @@ int main(int argc, char **argv)
         printf("report: answer %lu, %lu calls\n", i, answers[i]);
         CHECK(calls < 10000 || answers[i]);
     }
+    for (i = 0; i < CLAUSES; i++) {
+        printf("report: XSETBV, %lu values that break (%c) alone\n", values[i], (char)('a' + i));
+        CHECK(calls < 100000 || values[i]);
+    }
+    printf("report: XSETBV, %lu values that pass\n", values[CLAUSES]);
+    CHECK(calls < 100000 || values[CLAUSES]);
     CHECK(calls < 10000 || (numbers[1] && numbers[2] && numbers[8] && numbers[14] && numbers[15] && numbers[16] && numbers[17] && numbers[18] && numbers[19] && numbers[20] && numbers[21]));
     printf("report: %lu calls, every byte and word as the model\n", calls);
     return 0;

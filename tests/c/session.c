@@ -130,7 +130,7 @@ static uint64_t encoding(void)
 
 static const char *const names[] = {"vcpu_queue_event",      "vcpu_inject_interrupt", "vcpu_entry",      "vcpu_apic_value",   "vcpu_read_field",
                                     "vcpu_write_field",      "vcpu_get_reg_of_index", "vcpu_set_reg_of_index", "vcpu_get_counts", "vcpu_get_cpu_mode",
-                                    "vcpu_get_ptw_info",     "vcpu_gla2gva"};
+                                    "vcpu_get_ptw_info",     "vcpu_get_xcr0",         "vcpu_gla2gva"};
 
 enum { FUNCTIONS = sizeof names / sizeof names[0] };
 
@@ -248,6 +248,14 @@ static uint32_t one(unsigned f, uint8_t *r, size_t length)
                  : top == 77 && level == 77 && width == 77 && flags == 777);
         break;
     }
+    case 11:
+        n = vcpu_get_xcr0(r, length, &v);
+        if (ok) {
+            k = 0;
+            w = get(m, R_XCR0, L_XCR0);
+        }
+        CHECK(v == w);
+        break;
     default:
         if (below(2))
             y >>= 8;
@@ -342,12 +350,55 @@ static void edges(void)
     printf("session: edges as document 01 says\n");
 }
 
+/* Of bytes that are no record XCR0 is not read, and the result keeps what it had. */
+static void xcr0_of_no_record(uint8_t *r, size_t length, unsigned at, unsigned size, uint64_t x)
+{
+    uint64_t was = get(r, at, size), value = 0x1122334455667788u;
+
+    put(r, at, size, x);
+    CHECK(vcpu_get_xcr0(r, length, &value) == VCPU_REFUSED_BYTES && value == 0x1122334455667788u);
+    put(r, at, size, was);
+}
+
+/* XCR0 is read in every phase, 0 from a new record. Values outside the rule of XSETBV, and bits outside the supported word, are as good as others. */
+static void xcr0(void)
+{
+    static const uint64_t values[] = {1, 0, 2, 5, 0x9, 0xE3, 0x20001, 0x8000000000000000u, ~(uint64_t)0};
+    static uint8_t r[N + 1], zero[N];
+    uint64_t value = 99;
+    unsigned i, phase;
+
+    CHECK(vcpu_get_xcr0(zero, N, &value) == 0 && value == 0);
+    for (i = 0; i < sizeof values / sizeof values[0]; i++)
+        for (phase = VCPU_FRESH; phase <= VCPU_ENDED; phase++) {
+            random_lawful(r);
+            r[R_PHASE] = (uint8_t)phase;
+            r[R_WAITING] = 0;
+            put(r, R_ENTRIES, L_ENTRIES, 10);
+            put(r, R_HELD, L_HELD, 10);
+            put(r, R_XCR0, L_XCR0, values[i]);
+            put(r, R_XCR0_SUPPORTED, L_XCR0_SUPPORTED, 7);
+            CHECK(vcpu_get_xcr0(r, N, &value) == 0 && value == values[i]);
+            CHECK(vcpu_queue_event(r, N, 32, 0, 0) == (phase == VCPU_ENDED ? VCPU_REFUSED_PHASE : 0));
+            CHECK(get(r, R_XCR0, L_XCR0) == values[i] && get(r, R_XCR0_SUPPORTED, L_XCR0_SUPPORTED) == 7);
+            xcr0_of_no_record(r, N, R_PHASE, L_PHASE, 5);
+            xcr0_of_no_record(r, N, R_LAUNCHED, L_LAUNCHED, 2);
+            xcr0_of_no_record(r, N, R_HELD, L_HELD, 11);
+            xcr0_of_no_record(r, N, R_WAITING, L_WAITING, EVENTS + 1);
+            xcr0_of_no_record(r, N - 1, R_PHASE, L_PHASE, phase);
+            xcr0_of_no_record(r, N + 1, R_PHASE, L_PHASE, phase);
+            CHECK(vcpu_get_xcr0(r, N, &value) == 0 && value == values[i]);
+        }
+    printf("session: XCR0 read in every phase\n");
+}
+
 int main(int argc, char **argv)
 {
     unsigned long calls = argc > 1 ? strtoul(argv[1], 0, 10) : 1000000;
 
     offsets();
     edges();
+    xcr0();
     many(calls);
     printf("session: %lu calls, every byte and result as the model\n", calls);
     return 0;

@@ -1,6 +1,6 @@
 /*
  * Setup, from C: 100,000 calls (or as many as the first argument says) on capability words of many kinds, on records in every phase and on wrong
- * blocks, each against a model written from document 01 and the manual. Every byte of the record and of the frames is compared; the calls
+ * blocks, each against a model written from documents 01 and 02 and the manual. Every byte of the record and of the frames is compared; the calls
  * that got each number are counted and printed. Before them, that the header's VCPU_SETUP_FIELDS are the fields that setup writes.
  */
 #include "x86_vcpu.h"
@@ -11,7 +11,8 @@
 enum { BLOCK = VCPU_SETUP_LENGTH, FRAME = VCPU_FRAME_LENGTH };
 
 /* Offsets of the block that are used often. */
-enum { MSRS = VCPU_SETUP_MSRS, RDTSCP = VCPU_SETUP_RDTSCP, INVPCID = VCPU_SETUP_INVPCID, XSAVES = VCPU_SETUP_XSAVES };
+enum { MSRS = VCPU_SETUP_MSRS, SUPPORTED = VCPU_SETUP_XCR0_SUPPORTED };
+enum { RDTSCP = VCPU_SETUP_RDTSCP, INVPCID = VCPU_SETUP_INVPCID, XSAVES = VCPU_SETUP_XSAVES };
 
 /* Where the MSR bitmaps have the half that intercepts writes. */
 enum { WRITES = 2048 };
@@ -99,6 +100,13 @@ static void model_crs(uint8_t *r, const uint8_t *block)
     put(r, R_CR0 + 8, 8, msr(block, CR0_1));
     put(r, R_CR4, 8, msr(block, CR4_0));
     put(r, R_CR4 + 8, 8, msr(block, CR4_1));
+}
+
+/* The supported word is kept as it is; XCR0 is 1, also where the word has no bit 0. */
+static void model_xcr0(uint8_t *r, const uint8_t *block)
+{
+    put(r, R_XCR0, L_XCR0, 1);
+    put(r, R_XCR0_SUPPORTED, L_XCR0_SUPPORTED, get(block, SUPPORTED, 8));
 }
 
 /* Fields that take a number of the block: encoding, offset, width. */
@@ -238,6 +246,7 @@ static void once(void)
         s[R_PHASE] = VCPU_READY;
         model_words(s, block);
         model_crs(s, block);
+        model_xcr0(s, block);
         model_fields(s, block);
         model_frames(copies[0], copies[2]);
     }
@@ -310,12 +319,40 @@ static void worked(void)
     CHECK(vcpu_setup(r, N, block, BLOCK, frames[0], FRAME, frames[1], FRAME, frames[2], FRAME) == VCPU_REFUSED_PHASE);
 }
 
+/* Setup of a new session with this supported word; the number. */
+static uint32_t with_word(uint64_t supported)
+{
+    CHECK(vcpu_new(r, N, frames[0], FRAME, frames[1], FRAME, frames[2], FRAME) == 0);
+    put(block, SUPPORTED, 8, supported);
+    return vcpu_setup(r, N, block, BLOCK, frames[0], FRAME, frames[1], FRAME, frames[2], FRAME);
+}
+
+/* XCR0 is 0 before setup and 1 after it, whatever the supported word is, which is kept and not tested. A refused setup stores neither. */
+static void xcr0(void)
+{
+    static const uint64_t supported[] = {0, 1, 2, 6, 7, 0xE7, 0x602E7, (uint64_t)1 << 63, ~(uint64_t)0};
+    uint64_t x = 99;
+    unsigned i;
+
+    plain_block();
+    for (i = 0; i < sizeof supported / sizeof supported[0]; i++) {
+        CHECK(with_word(supported[i]) == 0);
+        CHECK(vcpu_get_xcr0(r, N, &x) == 0 && x == 1);
+        CHECK(get(r, R_XCR0_SUPPORTED, L_XCR0_SUPPORTED) == supported[i]);
+    }
+    put(block, MSRS + 8 * TRUE_PIN, 8, 1);
+    CHECK(with_word(7) == VCPU_REFUSED_PAIR);
+    CHECK(vcpu_get_xcr0(r, N, &x) == 0 && x == 0);
+    CHECK(get(r, R_XCR0_SUPPORTED, L_XCR0_SUPPORTED) == 0);
+}
+
 int main(int argc, char **argv)
 {
     unsigned long calls = argc > 1 ? strtoul(argv[1], 0, 10) : 100000, i;
 
     worked();
     listed();
+    xcr0();
     for (i = 0; i < calls; i++)
         once();
     for (i = 0; i < 10; i++)

@@ -1,4 +1,4 @@
-/* The machine as the host wants it: its descriptor tables, VMX operation, a current VMCS, a timer that ticks. */
+/* The machine as the host wants it: its descriptor tables, XCR0, VMX operation, a current VMCS, a timer that ticks. */
 #include "host.h"
 #include "instructions.h"
 
@@ -41,8 +41,26 @@ void load_tables(void)
 
 void host_trap(uint64_t vector, uint64_t code, uint64_t rip)
 {
-    ending("the host took exception %u, code %x, at %x", vector, code, rip);
+    tell("at %x\n", rip);
+    ending("the host took exception %u, code %x", vector, code);
     stop();
+}
+
+int has_xsave(void)
+{
+    uint32_t r[4];
+
+    cpuid(1, 0, r);
+    return r[2] >> 26 & 1;
+}
+
+/* XCR0 as the host wants it, where the processor has one. CR4 keeps OSXSAVE, for the guest's XCR0 before each entry and the host's after each exit. */
+void enable_xsave(void)
+{
+    if (!has_xsave())
+        return;
+    write_cr4(read_cr4() | CR4_OSXSAVE);
+    write_xcr0(HOST_XCR0);
 }
 
 /* VMX operation (SDM 3C, 24.7 and 24.8), where the processor offers it. An entry changes neither CD nor NW, and the core's guest has both clear. */

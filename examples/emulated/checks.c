@@ -95,7 +95,7 @@ static void check_cpuid(void)
     cpuid(1, 0, r);
     check_saw("CPUID 1, EAX: without bit 7", SAW_CPUID_1, r[0] & ~(1u << 7));
     check_saw("CPUID 1, EBX", SAW_CPUID_1 + 1, r[1]);
-    check_saw("CPUID 1, ECX: no VMX, a hypervisor", SAW_CPUID_1 + 2, (r[2] & ~(1u << 5)) | 1u << 31);
+    check_saw("CPUID 1, ECX: no VMX, no OSXSAVE, a hypervisor", SAW_CPUID_1 + 2, (r[2] & ~(1u << 5 | CPUID_1_OSXSAVE)) | 1u << 31);
     check_saw("CPUID 1, EDX", SAW_CPUID_1 + 3, r[3]);
     check_saw("CPUID 0x40000000, EAX", SAW_CPUID_VENDOR, 0x40000001);
     check_saw("vendor, RVMR", SAW_CPUID_VENDOR + 1, 0x524D5652);
@@ -179,6 +179,32 @@ static void check_pae(void)
         check_saw("a word by each page-directory pointer", SAW_PAE + i, 0x9AE);
 }
 
+/* EBX of CPUID leaf 0xD, the size of the XSAVE area, with this XCR0. */
+static uint32_t area(uint64_t xcr0)
+{
+    uint32_t r[4];
+
+    load_xcr0(xcr0);
+    cpuid(0xD, 0, r);
+    load_xcr0(HOST_XCR0);
+    return r[1];
+}
+
+/* XCR0 as the guest read it after XSETBV and before it, and as the core has it; a word from the upper half of a register of AVX, over an exit; CPUID. */
+static void check_xcr0(void)
+{
+    uint64_t should = supported_xcr0();
+
+    check("XCR0 after XSETBV", saw(SAW_XCR0) | (uint64_t)saw(SAW_XCR0 + 1) << 32, should);
+    check("XCR0 in the record", guest_xcr0(), should);
+    check_saw("XCR0 before XSETBV", SAW_XCR0_FIRST, 1);
+    check_saw("YMM0 after an exit", SAW_AVX, should & XCR0_AVX ? AVX_WORD : 0);
+    check_saw("CPUID 0xD, EBX, before XSETBV", SAW_AREA, area(1));
+    check_saw("CPUID 0xD, EBX, after XSETBV", SAW_AREA + 1, area(should));
+    check("CPUID 1, OSXSAVE, before CR4 has it", saw(SAW_OSXSAVE) & CPUID_1_OSXSAVE, 0);
+    check("CPUID 1, OSXSAVE, after that", saw(SAW_OSXSAVE + 1) & CPUID_1_OSXSAVE, CPUID_1_OSXSAVE);
+}
+
 static void check_counts(void)
 {
     uint8_t phase = 9, was_launched = 9, waiting = 9;
@@ -194,13 +220,15 @@ static void check_counts(void)
     check("out of the queue's order", count.out_of_order, 0);
 }
 
-/* What each exit loads for the host. */
+/* What each exit loads for the host, and XCR0, which the host loads itself. */
 static void check_host(void)
 {
     check("the host's PAT", rdmsr(IA32_PAT), host_pat);
     check("the host's SYSENTER_CS", rdmsr(IA32_SYSENTER_CS), HOST_CS);
     check("the host's SYSENTER_ESP", rdmsr(IA32_SYSENTER_ESP), 0x5000);
     check("the host's SYSENTER_EIP", rdmsr(IA32_SYSENTER_EIP), 0x6000);
+    if (has_xsave())
+        check("the host's XCR0", read_xcr0(), HOST_XCR0);
 }
 
 static unsigned ones(const uint8_t *frame)
@@ -255,6 +283,9 @@ static void check_done(void)
         break;
     case DONE_TIMER:
         check_timer();
+        break;
+    case DONE_XCR0:
+        check_xcr0();
         break;
     default:
         check("the guest's last word", done, DONE_PLAIN);

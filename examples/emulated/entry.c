@@ -110,6 +110,13 @@ static int repair(int way, int *resume)
     return 1;
 }
 
+/* XCR0 is in no field, and neither entry nor exit loads it. Where the processor has none, CR4 has no OSXSAVE. */
+void load_xcr0(uint64_t x)
+{
+    if (read_cr4() & CR4_OSXSAVE)
+        write_xcr0(x);
+}
+
 static int run_guest(uint8_t resumed)
 {
     int resume = deviates(CORE_RESUME) ? resumed : launched, way;
@@ -118,6 +125,8 @@ static int run_guest(uint8_t resumed)
     for (i = 0; i < 16; i++)
         guest_area.regs[i] = i == 4 ? 0 : reg(i);
     check_entry();
+    if (!deviates(NO_XCR0))
+        load_xcr0(guest_xcr0());
     write_cr2(guest_cr2);
     do {
         entered_with = fault_written ? 0 : vmread(VmcsControl32_VMENTRY_INTERRUPTION_INFO_FIELD);
@@ -125,6 +134,8 @@ static int run_guest(uint8_t resumed)
     } while (way && repair(way, &resume));
     guest_cr2 = read_cr2();
     write_cr2(0); /* as a page fault of the host would */
+    if (!deviates(LEAVE_XCR0))
+        load_xcr0(HOST_XCR0);
     /* an entry that fails, by VMfail or by bit 31 of the reason, leaves the VMCS as it was, clear or launched */
     if (!way && !(vmread(VmcsReadOnly32_EXIT_REASON) >> 31))
         launched = 1;

@@ -29,7 +29,8 @@ static const struct {
 /* The exits whose instruction is done by core and host, and not by the guest after its next entry. */
 static int completes(uint32_t reason)
 {
-    return reason == EXIT_CPUID || reason == EXIT_VMCALL || reason == EXIT_CR_ACCESS || reason == EXIT_IO || reason == EXIT_RDMSR || reason == EXIT_WRMSR;
+    return reason == EXIT_CPUID || reason == EXIT_VMCALL || reason == EXIT_CR_ACCESS || reason == EXIT_IO || reason == EXIT_RDMSR || reason == EXIT_WRMSR ||
+           reason == EXIT_XSETBV;
 }
 
 /*
@@ -47,6 +48,27 @@ static uint64_t blocking(uint32_t reason)
     return deviates(REPORT_NMI_BLOCKING) ? state : state & BLOCKING_STI_MOV_SS;
 }
 
+/*
+ * CPUID for the guest. OSXSAVE of leaf 1 is a bit of CR4, and the sizes in leaf 0xD are those of the XCR0 that is loaded (SDM 2A, CPUID): each is to be the
+ * guest's. Leaf 0xD offers no bit of XCR0 that setup was not given.
+ */
+static void guest_cpuid(uint32_t leaf, uint32_t subleaf, uint32_t r[4])
+{
+    int sizes = leaf == 0xD && !deviates(HOST_SIZE);
+
+    if (sizes)
+        load_xcr0(guest_xcr0());
+    cpuid(leaf, subleaf, r);
+    if (sizes)
+        load_xcr0(HOST_XCR0);
+    if (leaf == 1 && !deviates(HOST_OSXSAVE))
+        r[2] = (r[2] & ~CPUID_1_OSXSAVE) | (vmread(VmcsGuestNW_CR4) & CR4_OSXSAVE ? CPUID_1_OSXSAVE : 0);
+    if (leaf == 0xD && subleaf == 0 && !deviates(OFFER_ALL)) {
+        r[0] &= (uint32_t)supported_xcr0();
+        r[3] &= (uint32_t)(supported_xcr0() >> 32);
+    }
+}
+
 static void fill_report(uint32_t reason)
 {
     uint32_t r[4] = {0, 0, 0, 0};
@@ -58,7 +80,7 @@ static void fill_report(uint32_t reason)
         put(report, reported[i].at, reported[i].size, vmread(reported[i].encoding));
     put(report, VCPU_REPORT_INTERRUPTIBILITY, 4, blocking(reason));
     if (reason == EXIT_CPUID)
-        cpuid((uint32_t)guest_area.regs[RAX], (uint32_t)guest_area.regs[RCX], r);
+        guest_cpuid((uint32_t)guest_area.regs[RAX], (uint32_t)guest_area.regs[RCX], r);
     for (i = 0; i < 4; i++)
         put(report, VCPU_REPORT_CPUID_EAX + 4 * i, 4, r[i]);
 }
@@ -211,6 +233,8 @@ int leave(void)
         carry(VmcsGuest32_VMX_PREEMPTION_TIMER_VALUE);
     if (reason == EXIT_CR_ACCESS)
         carry_move(controls, paging);
+    if (reason == EXIT_XSETBV)
+        tell("  XCR0 %x, for the next entry\n", guest_xcr0());
     if (answer[0] != VCPU_ANSWER_FAIL_ENTRY)
         queue_vectoring();
     queue_late_nmi();

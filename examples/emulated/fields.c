@@ -38,6 +38,15 @@ void set_reg(unsigned i, uint64_t x)
     check("a register write", vcpu_set_reg_of_index(record, sizeof record, i, x), 0);
 }
 
+/* 1 after setup, then what the guest's last XSETBV brought. */
+uint64_t guest_xcr0(void)
+{
+    uint64_t x = 0;
+
+    vcpu_get_xcr0(record, sizeof record, &x);
+    return x;
+}
+
 /* From the record to the VMCS. */
 void carry(uint64_t encoding)
 {

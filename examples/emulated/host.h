@@ -61,7 +61,9 @@ enum {
 #define CR4_PAE (1ull << 5)
 #define CR4_PGE (1ull << 7)
 #define CR4_VMXE (1ull << 13)
+#define CR4_OSXSAVE (1ull << 18)
 #define CR4_SMEP (1ull << 20)
+#define CPUID_1_OSXSAVE (1u << 27)
 #define EFER_LME (1ull << 8)
 #define EFER_LMA (1ull << 10)
 #define ENTRY_IA32E_GUEST (1ull << 9)
@@ -88,7 +90,8 @@ enum {
     EXIT_RDMSR = 31,
     EXIT_WRMSR = 32,
     EXIT_EPT_VIOLATION = 48,
-    EXIT_PREEMPTION_TIMER = 52
+    EXIT_PREEMPTION_TIMER = 52,
+    EXIT_XSETBV = 55
 };
 
 enum { RAX, RCX, RDX };
@@ -108,7 +111,11 @@ void stop(void);
 #define HOST_TR 0x18
 extern uint64_t gdt[5], idt[512];
 extern uint8_t tss[104];
+/* x87 and SSE: what the host uses. */
+#define HOST_XCR0 3
 void load_tables(void);
+int has_xsave(void);
+void enable_xsave(void);
 void enable_vmx(void);
 void load_vmcs(int which);
 void start_timer(void);
@@ -121,6 +128,7 @@ uint64_t field(uint64_t encoding);
 void set_field(uint64_t encoding, uint64_t x);
 uint64_t reg(unsigned i);
 void set_reg(unsigned i, uint64_t x);
+uint64_t guest_xcr0(void);
 void carry(uint64_t encoding);
 void carry_setup(void);
 void carry_others(void);
@@ -138,6 +146,8 @@ uint32_t saw(unsigned n);
 /* setup.c: the session */
 extern uint8_t io_a[VCPU_FRAME_LENGTH], io_b[VCPU_FRAME_LENGTH], msrs[VCPU_FRAME_LENGTH];
 extern uint64_t host_pat;
+uint64_t offered_xcr0(void);
+uint64_t supported_xcr0(void);
 void make_session(uint64_t guest);
 /* Not the host's: every memory type is write-back. */
 #define GUEST_PAT 0x0606060606060606
@@ -150,6 +160,7 @@ struct guest_area {
 extern struct guest_area guest_area;
 int vm_enter(struct guest_area *area, int launched);
 void vm_exit(void);
+void load_xcr0(uint64_t x);
 int enter(void);
 int leave(void);
 int act(const uint64_t *answer, uint32_t reason);

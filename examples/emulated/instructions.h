@@ -29,6 +29,20 @@ static inline void cpuid(uint32_t leaf, uint32_t subleaf, uint32_t r[4])
     ASM("cpuid" : "=a"(r[0]), "=b"(r[1]), "=c"(r[2]), "=d"(r[3]) : "a"(leaf), "c"(subleaf));
 }
 
+/* XCR0 (SDM 1, 13.3); both fault unless CR4 has OSXSAVE. */
+static inline uint64_t read_xcr0(void)
+{
+    uint32_t low, high;
+
+    ASM("xgetbv" : "=a"(low), "=d"(high) : "c"(0));
+    return (uint64_t)high << 32 | low;
+}
+
+static inline void write_xcr0(uint64_t x)
+{
+    ASM("xsetbv" : : "a"((uint32_t)x), "d"((uint32_t)(x >> 32)), "c"(0) : "memory");
+}
+
 #define CONTROL_REGISTER(name)                            \
     static inline uint64_t read_##name(void)              \
     {                                                     \

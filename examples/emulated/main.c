@@ -50,6 +50,7 @@ void host_main(uint32_t guest, uint32_t chosen)
     say("begin\n");
     say_name();
     load_tables();
+    enable_xsave();
     enable_vmx();
     make_session(guest);
     put(guest_area.guest_fx, 0, 2, 0x37F);   /* x87 control word and MXCSR after FNINIT and at reset */

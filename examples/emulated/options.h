@@ -29,7 +29,14 @@
     O(KEEP_CODE)              /* leave an error code to a guest in real mode */               \
     O(EXIT_LENGTH)            /* leave the length of INT1, INT3 and INTO as the core does */  \
     O(HOST_EFER)              /* read the CPU mode with the host's EFER */                    \
-    O(QUEUE_FIRST)            /* queue vector 3 before the first entry */
+    O(QUEUE_FIRST)            /* queue vector 3 before the first entry */                     \
+    O(NO_XCR0)                /* do not load the guest's XCR0 before an entry */              \
+    O(LEAVE_XCR0)             /* do not load the host's XCR0 after an exit */                 \
+    O(ALL_XCR0)               /* give setup a supported word of all bits */                   \
+    O(FEWER_XCR0)             /* give setup a supported word of x87 and SSE alone */          \
+    O(OFFER_ALL)              /* leave bits in leaf 0xD that the supported word lacks */      \
+    O(HOST_SIZE)              /* run CPUID of leaf 0xD with the host's XCR0 */                \
+    O(HOST_OSXSAVE)           /* leave OSXSAVE of leaf 1 as the host's CR4 has it */
 
 #define OPTION(name) name,
 enum option { OPTIONS(OPTION) };

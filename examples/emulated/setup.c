@@ -65,11 +65,32 @@ static void put_guest(uint64_t rip)
     put(block, VCPU_SETUP_MSR_BITMAPS, 8, (uint64_t)msrs);
 }
 
-/* Whether CPUID offers RDTSCP, INVPCID and XSAVES (SDM 2A, CPUID). */
+/* The bits that XCR0 may have (SDM 1, 13.3): none where there is no XCR0. */
+uint64_t offered_xcr0(void)
+{
+    uint32_t r[4];
+
+    if (!has_xsave())
+        return 0;
+    cpuid(0xD, 0, r);
+    return (uint64_t)r[3] << 32 | r[0];
+}
+
+/* The supported word of setup. */
+uint64_t supported_xcr0(void)
+{
+    if (deviates(ALL_XCR0))
+        return ~0ull;
+    return deviates(FEWER_XCR0) ? offered_xcr0() & HOST_XCR0 : offered_xcr0();
+}
+
+/* What CPUID offers: bits of XCR0; whether there are RDTSCP, INVPCID and XSAVES (SDM 2A, CPUID). */
 static void put_offers(void)
 {
     uint32_t r[4], last;
 
+    say("xcr0: %x\n", offered_xcr0());
+    put(block, VCPU_SETUP_XCR0_SUPPORTED, 8, supported_xcr0());
     cpuid(0x80000001, 0, r);
     block[VCPU_SETUP_RDTSCP] = r[3] >> 27 & 1;
     cpuid(0, 0, r);

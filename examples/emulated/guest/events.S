@@ -124,6 +124,17 @@ first_breakpoint:                       # the host has queued vector 3 before th
     note    0xF1
     finish  DONE_PLAIN
 
+    .macro  xsave_on otherwise          # OSXSAVE, without an exit, where CPUID offers XSAVE
+    mov     $1, %eax
+    xor     %ecx, %ecx
+    cpuid
+    bt      $26, %ecx
+    jnc     \otherwise
+    mov     %cr4, %eax
+    or      $0x40000, %eax
+    mov     %eax, %cr4
+    .endm
+
     .macro  round number, instruction:vararg
     sti
     \instruction
@@ -158,7 +169,13 @@ first_breakpoint:                       # the host has queued vector 3 before th
     mov     %cr0, %eax
     xor     $0x20, %eax                 # NE
     round   0xF7, mov %eax, %cr0
-    finish  DONE_PLAIN
+    xsave_on 2f
+    hypercall CALL_QUEUE 0x20
+    xor     %ecx, %ecx
+    xor     %edx, %edx
+    mov     $1, %eax
+    round   0xF8, xsetbv
+2:  finish  DONE_PLAIN
 
     begin   sti_shadow                  # an exit in STI's shadow whose instruction is yet to be done: the interrupt comes after it
     hypercall CALL_AT_NEXT 0x20
@@ -293,19 +310,47 @@ first_breakpoint:                       # the host has queued vector 3 before th
     movb    $0, (%ebx)
     finish  DONE_PLAIN
 
-    begin   xsetbv
+    begin   xsetbv                      # every bit of XCR0 that CPUID offers, and AVX where it is one of them
+    xsave_on no_xsave
+    mov     %ecx, SAW(SAW_OSXSAVE)
     mov     $1, %eax
-    xor     %ecx, %ecx
     cpuid
-    bt      $26, %ecx
-    jnc     2f
-    mov     %cr4, %eax
-    or      $0x40000, %eax              # OSXSAVE: no exit
-    mov     %eax, %cr4
+    mov     %ecx, SAW(SAW_OSXSAVE + 1)
+    xor     %ecx, %ecx
+    xgetbv
+    mov     %eax, SAW(SAW_XCR0_FIRST)
+    mov     $0xD, %eax
+    cpuid
+    mov     %ebx, SAW(SAW_AREA)
+    mov     %eax, %esi
+    xor     %ecx, %ecx
+    xsetbv
+    xgetbv                              # does not exit
+    mov     %eax, SAW(SAW_XCR0)
+    mov     %edx, SAW(SAW_XCR0 + 1)
+    mov     $0xD, %eax
+    cpuid
+    mov     %ebx, SAW(SAW_AREA + 1)
+    protect 0x5FF0                      # real mode has no AVX
+    test    $XCR0_AVX, %esi
+    jz      1f
+    movl    $AVX_WORD, SAW(SAW_AVX + 1)
+    vbroadcastss SAW(SAW_AVX + 1), %ymm0
+    hypercall CALL_HERE
+    vextractf128 $1, %ymm0, %xmm0
+    vmovd   %xmm0, SAW(SAW_AVX)
+1:  finish  DONE_XCR0
+p06:                                    # #UD in protected mode: XCR0 lacks AVX
+    note    0x06
+    finish  DONE_XCR0
+
+    begin   xsetbv_more                 # bit 8, which is of IA32_XSS: without a host a general-protection fault
+    xsave_on no_xsave
     xor     %ecx, %ecx
     xor     %edx, %edx
-    mov     $3, %eax
+    mov     $0x101, %eax
     xsetbv
     finish  DONE_PLAIN
-2:  note    0xEE                        # the processor has no XSAVE
+no_xsave:
+    note    0xEE                        # the processor has no XSAVE
     finish  DONE_PLAIN

@@ -60,7 +60,11 @@ gdtr:
     .word   31
     .long   gdt
 idt:                                    # vectors 0 to 14 of protected mode
-    .rept   13
+    .rept   6
+    .quad   0
+    .endr
+    .word   p06, 8, 0x8E00, 0
+    .rept   6
     .quad   0
     .endr
     .word   p13, 8, 0x8E00, 0

@@ -62,6 +62,11 @@
 #define SAW_REGISTERS 31 /* 1: all stayed over an exit, and CPUID gave its four */
 #define SAW_PAE 32       /* one word by four page-directory pointers */
 #define SAW_CPUID_4 36   /* EAX of subleaf 1 */
+#define SAW_XCR0 37      /* EAX, EDX */
+#define SAW_XCR0_FIRST 39
+#define SAW_AVX 40       /* from the upper half of YMM0; behind it the word that was put there */
+#define SAW_AREA 42      /* EBX of leaf 0xD before XSETBV, and after it */
+#define SAW_OSXSAVE 44   /* ECX of leaf 1 before CR4.OSXSAVE, and after it */
 
 /* The last word: which checks the host makes, in a guest that came to its end. */
 #define DONE 0x67FC
@@ -75,5 +80,10 @@
 #define DONE_LONG_MODE 0x600D0007
 #define DONE_PAE 0x600D0008
 #define DONE_CODE 0x600D0009
+#define DONE_XCR0 0x600D000A
+
+/* The bit of AVX in XCR0, and the word that the guest puts through YMM0. */
+#define XCR0_AVX 4
+#define AVX_WORD 0x00A7C256
 
 #endif

@@ -3,7 +3,8 @@
 usage: trace 1000 1 | python3 replay.py
 
 It shows that document 01 and the Rust agree in the comparable domain. A difference is printed with its line number; the
-exit status is then 1.
+exit status is then 1. Of XSETBV the model follows document 02 (N1) and the Rust does not: no trace has it, and the
+model is tried on document 02's edges instead.
 """
 
 import sys
@@ -52,9 +53,27 @@ CS_BASE, CS_RIGHTS, SS_RIGHTS = 0x6808, 0x4816, 0x4818
 PG, PE, NW, CD = 1 << 31, 1, 1 << 29, 1 << 30
 
 
+def xcr0_allowed(supported, value):
+    """Document 02's rule, (a) to (g)."""
+    has = lambda *bits: [value >> bit & 1 for bit in bits]
+    x87, sse, avx, bndreg, bndcsr, opmask, zmm_hi256, hi16_zmm = has(*range(8))
+    tilecfg, tiledata = has(17, 18)
+    avx512 = {opmask, zmm_hi256, hi16_zmm}
+    return (
+        x87 == 1
+        and not (avx and not sse)
+        and bndreg == bndcsr
+        and len(avx512) == 1
+        and not (avx512 == {1} and not avx)
+        and tilecfg == tiledata
+        and value | supported == supported
+    )
+
+
 class Session:
     def __init__(self):
         self.fields = {}
+        self.xcr0 = self.supported = 0
         self.registers = [0] * 16
         self.queue = []
         self.frames = {"a": bytearray(4096), "b": bytearray(4096), "m": bytearray(4096)}
@@ -71,11 +90,12 @@ class Session:
     def setup(self, n):
         host, entry, root, frames = n[:18], n[18], n[19], n[20:23]
         pairs, plain, fixed = n[23:28], n[28:32], n[32:36]
-        guest_pat, rdtscp, invpcid, xsaves = n[36:]
+        guest_pat, supported, rdtscp, invpcid, xsaves = n[36:]
         for pair in pairs:
             refuse_if(pair & M32 & ~(pair >> 32), 6)
         refuse_if(fixed[0] & ~fixed[1] or fixed[2] & ~fixed[3], 6)
         self.pairs, self.fixed = pairs, fixed
+        self.xcr0, self.supported = 1, supported
         secondary = 0x82 | 0x8 * rdtscp | 0x1000 * invpcid | 0x100000 * xsaves
         olds = [plain[0], plain[1], pairs[2], plain[2], plain[3]]
         sets = [0x9, 0x92000000, secondary, 0x3C8200, 0xC000]
@@ -206,11 +226,13 @@ class Session:
         refuse_if(number == 1 and (not info >> 31 or info >> 8 & 7 == 1), 16)
         cr, access, gpr = qualification & 15, qualification >> 4 & 3, qualification >> 8 & 15
         refuse_if(number == 28 and (access != 0 or cr not in (0, 4)), 18)
+        low = lambda x: x & M32
+        pair = low(rdx) << 32 | low(rax)
         refuse_if(number == 55 and rcx & M32 != 0, 20)
-        refuse_if(number == 55, 19)
+        refuse_if(number == 55 and not xcr0_allowed(self.supported, pair), 19)
         refuse_if(number == 44, 21)
         apic = number in (31, 32) and 0x800 <= rcx & M32 <= 0x8FF
-        advance = {10: 2, 28: 3, 18: length & 255, 30: length & 255}.get(number, 2 if apic else 0)
+        advance = {10: 2, 28: 3, 55: 3, 18: length & 255, 30: length & 255}.get(number, 2 if apic else 0)
         refuse_if(rip + advance > M64, 17)
         value = state[1] if gpr == 4 else registers[gpr]
         efer = state[7]
@@ -224,8 +246,9 @@ class Session:
             self.put(encoding, word)
         self.put(EVENT, self.get(EVENT) & 0x7FFFFFFF)
         self.put(RIP, rip + advance)
-        low = lambda x: x & M32
-        pair = low(rdx) << 32 | low(rax)
+        if number == 55:
+            self.xcr0 = pair
+            return "Nothing"
         if number == 7:
             self.put(PRIMARY, self.get(PRIMARY) & ~4)
             return "Nothing"
@@ -327,8 +350,58 @@ def copy(session):
     return new
 
 
+# Document 02's edges of XSETBV: a supported word, the values that pass, and those that do not.
+XCR0_EDGES = [
+    (7, [1, 3, 7], [0, 2, 5, 6, 0xF, 0x201]),
+    (0x1F, [0x19, 0x1F], [0x9, 0x11]),
+    (0xE7, [0xE7], [0xE3, 0x27, 0xC7, 0xA7]),
+    (0x60007, [0x60001], [0x20001, 0x40001]),
+    (0x207, [0x201], []),
+    (M64, [0x101, 1 << 63 | 1, M64], []),
+    (6, [], [7, 1]),
+    (0, [], [1]),
+]
+LAST_RIP = M64 - 3
+
+
+def xsetbv(supported, value, rcx=0, high=0, rip=0x1000):
+    """An XSETBV exit of a session with XCR0 1, of a reported length of 9: the number, and then XCR0 and RIP's advance."""
+    session = Session()
+    session.xcr0, session.supported, session.pairs = 1, supported, [0] * 5
+    session.put(RIP, rip)
+    registers = [value & M32 | high << 32, rcx, value >> 32 | high << 32] + [0] * 13
+    try:
+        answer = session.report(registers + [rip] + [0] * 10 + [55, 0, 9, 0, 0] + [0] * 4)
+        return (0 if answer == "Nothing" else answer), session.xcr0, session.get(RIP) - rip
+    except Refused as refused:
+        return refused.number, session.xcr0, session.get(RIP) - rip
+
+
+def wrong_edges():
+    """The edges, and how many of them the model answers otherwise."""
+    edges = []
+    for supported, passing, refused in XCR0_EDGES:
+        for high in (0, M32):
+            edges += [(xsetbv(supported, value, high=high), (0, value, 3)) for value in passing]
+            edges += [(xsetbv(supported, value, high=high), (19, 1, 0)) for value in refused]
+    edges += [
+        (xsetbv(7, 7, rcx=1 << 32), (0, 7, 3)),
+        (xsetbv(7, 7, rcx=1), (20, 1, 0)),
+        (xsetbv(7, 6, rcx=1), (20, 1, 0)),
+        (xsetbv(7, 7, rip=LAST_RIP), (0, 7, 3)),
+        (xsetbv(7, 7, rip=LAST_RIP + 1), (17, 1, 0)),
+        (xsetbv(7, 6, rip=LAST_RIP + 1), (19, 1, 0)),
+    ]
+    wrong = [edge for edge in edges if edge[0] != edge[1]]
+    for got, expected in wrong:
+        print(f"XSETBV: model {got} | document 02 {expected}")
+    print(f"{len(edges)} edges of XSETBV, {len(wrong)} differences")
+    return len(wrong)
+
+
 def main():
-    calls = wrong = sequences = 0
+    wrong = wrong_edges()
+    calls = sequences = 0
     model = oracle = None
     pending = None
 

@@ -1,6 +1,6 @@
 //! The byte blocks of setup and of an exit report, from structs.
 
-pub const SETUP_LENGTH: usize = 257;
+pub const SETUP_LENGTH: usize = 265;
 pub const REPORT_LENGTH: usize = 244;
 
 /// Writes numbers one behind the other, least significant byte first.
@@ -70,6 +70,8 @@ pub struct Setup {
     pub msr_bitmaps: u64,
     /// The capability MSRs 0x481 to 0x484, 0x486 to 0x489, 0x48B, 0x48D to 0x490.
     pub msrs: [u64; 13],
+    /// The bits of XCR0 that the guest may set: CPUID leaf 0xD, subleaf 0, EDX:EAX, or fewer.
+    pub xcr0_supported: u64,
     pub rdtscp: bool,
     pub invpcid: bool,
     pub xsaves: bool,
@@ -89,6 +91,7 @@ impl Setup {
         w.u64s(&[h.tr_base, h.gdtr_base, h.idtr_base, h.rip]);
         w.u64s(&[self.entry, self.guest_pat, self.ept_root, self.io_bitmap_a, self.io_bitmap_b, self.msr_bitmaps]);
         w.u64s(&self.msrs);
+        w.u64s(&[self.xcr0_supported]);
         w.put(&[u8::from(self.rdtscp), u8::from(self.invpcid), u8::from(self.xsaves)]);
         bytes
     }
@@ -115,7 +118,7 @@ pub struct Report {
     pub instruction_length: u32,
     pub interruption: u32,
     pub error_code: u32,
-    /// EAX, EBX, ECX, EDX of the host for the guest's EAX and ECX.
+    /// EAX, EBX, ECX, EDX that CPUID gives for the guest's EAX and ECX, as the header's "What the host does" says.
     pub cpuid: [u32; 4],
 }
 

@@ -24,6 +24,7 @@ extern "C" {
     pub fn vcpu_get_reg_of_index(record: *const u8, length: usize, index: u64, value: *mut u64) -> u32;
     pub fn vcpu_set_reg_of_index(record: *mut u8, length: usize, index: u64, value: u64) -> u32;
     pub fn vcpu_get_counts(record: *const u8, length: usize, phase: *mut u8, launched: *mut u8, waiting: *mut u8, entries: *mut u32, held: *mut u32) -> u32;
+    pub fn vcpu_get_xcr0(record: *const u8, length: usize, xcr0: *mut u64) -> u32;
     pub fn vcpu_get_cpu_mode(record: *const u8, length: usize, host_efer: u64, mode: *mut u32) -> u32;
     pub fn vcpu_get_ptw_info(record: *const u8, length: usize, top_entry: *mut u64, level: *mut u8, width: *mut u8, flags: *mut u32) -> u32;
     pub fn vcpu_gla2gva(record: *const u8, length: usize, host_efer: u64, address: u64, linear: *mut u64) -> u32;

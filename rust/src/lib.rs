@@ -3,7 +3,7 @@
 //! A [`Session`] holds the record's bytes and [`Frames`] the three intercept frames. A refused call answers its [`Refusal`] and changes nothing.
 //!
 //! The host carries fields and registers between the session and the processor, as `include/x86_vcpu.h` says under "What the host does": after
-//! [`Session::setup`] the fields of [`Field::SETUP`], before an entry all of [`Session::registers`], and what a processor asks beside it.
+//! [`Session::setup`] the fields of [`Field::SETUP`], before an entry all of [`Session::registers`] and [`Session::xcr0`], and what a processor asks beside it.
 //!
 //! Every `unsafe` block below is one call of the archive. What `include/x86_vcpu.h` asks of a caller holds in each: a pointer and its length are those of one
 //! array that is borrowed for the call, a result is a local variable, and no two of them overlap.
@@ -20,7 +20,7 @@ pub use refusal::Refusal;
 use core::ops::BitOr;
 use refusal::{accepted, outcome};
 
-pub const RECORD_LENGTH: usize = 1469;
+pub const RECORD_LENGTH: usize = 1485;
 pub const FRAME_LENGTH: usize = 4096;
 
 /// Where the registers lie in a record.
@@ -454,6 +454,14 @@ impl Session {
             ffi::vcpu_get_counts(self.0.as_ptr(), RECORD_LENGTH, &raw mut phase, &raw mut launched, &raw mut waiting, &raw mut entries, &raw mut held)
         };
         (number, Counts { phase: Phase::of(phase), launched: launched == 1, waiting, entries, held })
+    }
+
+    /// XCR0 of the guest: 0 while fresh, 1 from setup on, then what the last accepted XSETBV brought. The core never loads it: the host does.
+    #[must_use]
+    pub fn xcr0(&self) -> u64 {
+        let mut value = 0;
+        accepted(unsafe { ffi::vcpu_get_xcr0(self.0.as_ptr(), RECORD_LENGTH, &raw mut value) });
+        value
     }
 
     /// The mode of the guest's CPU, told by LMA of the EFER given, the guest's CS access rights and CR0. With the host's EFER, as in the published Rust, a

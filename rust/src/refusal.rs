@@ -45,7 +45,7 @@ pub enum Refusal {
     Sum = 17,
     /// Reports: an access to a control register that is no move to CR0 or CR4.
     CrAccess = 18,
-    /// Reports: XSETBV of XCR0.
+    /// Reports: XSETBV of a value that XCR0 may not have, by the manual's rule or because a bit is not supported.
     Xcr0 = 19,
     /// Reports: XSETBV of another register.
     Xcr = 20,
@@ -111,7 +111,7 @@ impl Refusal {
             Refusal::Interrupt => "the external interrupt's information is not valid or has type 1",
             Refusal::Sum => "an address passes 2^64 - 1",
             Refusal::CrAccess => "the access to a control register is no move to CR0 or CR4",
-            Refusal::Xcr0 => "XSETBV of XCR0",
+            Refusal::Xcr0 => "XSETBV of a value that XCR0 may not have",
             Refusal::Xcr => "XSETBV of a register other than XCR0",
             Refusal::ApicAccess => "an APIC access",
             Refusal::Count => "the count of entries is at its end",

@@ -30,8 +30,11 @@ const WORDS: [u64; 13] = [
 /// Where the fields lie in a record.
 const FIELDS: std::ops::Range<usize> = 138..1068;
 
+/// X87, SSE and AVX.
+const XCR0_SUPPORTED: u64 = 7;
+
 fn setup() -> Setup {
-    Setup { entry: 0x8000, ept_root: 0x1FFF, msrs: WORDS, ..Setup::default() }
+    Setup { entry: 0x8000, ept_root: 0x1FFF, msrs: WORDS, xcr0_supported: XCR0_SUPPORTED, ..Setup::default() }
 }
 
 fn ready() -> (Session, Frames) {
@@ -130,6 +133,55 @@ fn every_phase_is_told() {
     assert_eq!(session.counts().phase, Phase::Ended);
     assert_eq!(session.read_field(VmcsReadOnly32::EXIT_REASON), Ok(0x8000_0021));
     assert_eq!(session.queue_event(14, Some(2)), Err(Refusal::Phase));
+}
+
+/// What the guest's XSETBV reports: RCX, RDX and RAX.
+fn xsetbv(session: &Session, rcx: u64, rdx: u64, rax: u64) -> Report {
+    let mut exit = Report { instruction_length: 5, ..report(session, 55) };
+    (exit.regs[0], exit.regs[1], exit.regs[2]) = (rax, rcx, rdx);
+    exit
+}
+
+#[test]
+fn xsetbv_brings_xcr0() {
+    let mut frames = Frames::new();
+    let mut session = Session::new(&mut frames);
+    assert_eq!(session.xcr0(), 0);
+    session.setup(&setup(), &mut frames).unwrap();
+    assert_eq!(session.xcr0(), 1);
+    for value in [7, 3, 1, 7] {
+        session.entry(0).unwrap();
+        let exit = xsetbv(&session, 1 << 32, 0xF << 32, 0xF << 32 | value);
+        assert_eq!(session.exit_report(&exit), Ok(Answer::Nothing));
+        assert_eq!((session.xcr0(), session.read_field(VmcsGuestNW::RIP)), (value, Ok(exit.rip + 3)));
+        assert_eq!(session.counts().phase, Phase::Ready);
+    }
+}
+
+/// The rule, the supported bits and the register; then the value stays.
+#[test]
+fn xsetbv_is_refused_by_name() {
+    let (mut session, _) = ready();
+    session.entry(0).unwrap();
+    let refused = [
+        (0, 0, 0, Refusal::Xcr0),
+        (0, 0, 5, Refusal::Xcr0),
+        (0, 0, 0x1F, Refusal::Xcr0),
+        (0, 1, 7, Refusal::Xcr0),
+        (1, 0, 7, Refusal::Xcr),
+        (1, 0, 0, Refusal::Xcr),
+    ];
+    for (rcx, rdx, rax, refusal) in refused {
+        let before = session.clone();
+        assert_eq!(session.exit_report(&xsetbv(&session, rcx, rdx, rax)), Err(refusal));
+        assert_eq!((&session, session.xcr0()), (&before, 1));
+    }
+    let at_end = |rip, rax| Report { rip, ..xsetbv(&session, 0, 0, rax) };
+    let [past, bad, last] = [at_end(u64::MAX - 2, 7), at_end(u64::MAX - 2, 5), at_end(u64::MAX - 3, 7)];
+    assert_eq!(session.exit_report(&past), Err(Refusal::Sum));
+    assert_eq!(session.exit_report(&bad), Err(Refusal::Xcr0));
+    assert_eq!(session.exit_report(&last), Ok(Answer::Nothing));
+    assert_eq!((session.xcr0(), session.read_field(VmcsGuestNW::RIP)), (7, Ok(u64::MAX)));
 }
 
 #[test]

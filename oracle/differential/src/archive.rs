@@ -49,6 +49,8 @@ functions! {
     "vcpu_set_reg_of_index" vcpu_set_reg_of_index(*mut u8, usize, u64, u64);
     // record, phase, launched, waiting, entries, held
     "vcpu_get_counts" vcpu_get_counts(*const u8, usize, *mut u8, *mut u8, *mut u8, *mut u32, *mut u32);
+    // record, XCR0
+    "vcpu_get_xcr0" vcpu_get_xcr0(*const u8, usize, *mut u64);
     // record, host EFER, mode
     "vcpu_get_cpu_mode" vcpu_get_cpu_mode(*const u8, usize, u64, *mut u32);
     // record, top entry, level, width, flags

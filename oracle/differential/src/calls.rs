@@ -18,13 +18,14 @@ pub enum Call {
     GetRegister { index: u64 },
     SetRegister { index: u64, value: u64 },
     GetCounts,
+    GetXcr0,
     CpuMode { host_efer: u64 },
     PageWalkInfo,
     Gla2gva { host_efer: u64, address: u64 },
 }
 
 /// The functions, in the order of `Call`.
-pub const NAMES: [&str; 12] = [
+pub const NAMES: [&str; 13] = [
     "vcpu_queue_event",
     "vcpu_inject_interrupt",
     "vcpu_entry",
@@ -34,6 +35,7 @@ pub const NAMES: [&str; 12] = [
     "vcpu_get_reg_of_index",
     "vcpu_set_reg_of_index",
     "vcpu_get_counts",
+    "vcpu_get_xcr0",
     "vcpu_get_cpu_mode",
     "vcpu_get_ptw_info",
     "vcpu_gla2gva",
@@ -114,6 +116,7 @@ pub fn port(call: Call, record: *mut u8, length: usize) -> Reply {
         Call::GetCounts => {
             port!(vcpu_get_counts(record, length, at(0).cast(), at(1).cast(), at(2).cast(), at(3).cast(), at(4).cast()))
         }
+        Call::GetXcr0 => port!(vcpu_get_xcr0(record, length, at(0))),
         Call::CpuMode { host_efer } => port!(vcpu_get_cpu_mode(record, length, host_efer, at(0).cast())),
         Call::PageWalkInfo => {
             port!(vcpu_get_ptw_info(record, length, at(0), at(1).cast(), at(2).cast(), at(3).cast()))
@@ -123,7 +126,7 @@ pub fn port(call: Call, record: *mut u8, length: usize) -> Reply {
     Reply { number, results }
 }
 
-/// The original's answer. What document 01's session has beyond it follows from the answer.
+/// The original's answer. What the session has beyond it follows from the answer.
 pub fn original(call: Call, oracle: &mut Oracle, reference: &mut Reference) -> Reply {
     match call {
         Call::QueueEvent { vector, coded, code } => {
@@ -152,6 +155,7 @@ pub fn original(call: Call, oracle: &mut Oracle, reference: &mut Reference) -> R
             let counts = [(4, reference.entries as u64), (4, reference.held as u64)];
             Reply::accepted(&[(1, reference.phase as u64), (1, launched), (1, waiting), counts[0], counts[1]])
         }
+        Call::GetXcr0 => Reply::accepted(&[(8, reference.xcr0)]),
         Call::CpuMode { host_efer } => Reply::accepted(&[(4, oracle.cpu_mode(host_efer) as u64)]),
         Call::PageWalkInfo => page_walk(oracle.page_walk()),
         Call::Gla2gva { host_efer, address } => Reply::outcome(Original::Gla2gva, oracle.gla2gva(host_efer, address)),
@@ -207,6 +211,6 @@ pub fn outside(call: Call, record: &[u8], length: usize) -> Option<u32> {
             first(&[(left_out || encoding > u32::MAX as u64, ENCODING_REFUSED)])
         }
         Call::GetRegister { index } | Call::SetRegister { index, .. } => first(&[(index > 255, INDEX_REFUSED)]),
-        Call::GetCounts | Call::CpuMode { .. } | Call::PageWalkInfo | Call::Gla2gva { .. } => None,
+        Call::GetCounts | Call::GetXcr0 | Call::CpuMode { .. } | Call::PageWalkInfo | Call::Gla2gva { .. } => None,
     }
 }

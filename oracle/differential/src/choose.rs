@@ -59,6 +59,8 @@ pub fn reference(random: &mut Random) -> Reference {
         entries,
         held: random.below(entries as u64 + 1) as u32,
         kept,
+        xcr0: random.word(),
+        supported: random.xcr0_supported(),
     }
 }
 
@@ -78,8 +80,9 @@ pub fn call(random: &mut Random, which: usize) -> Call {
         6 => Call::GetRegister { index: index(random) },
         7 => Call::SetRegister { index: index(random), value: random.word() },
         8 => Call::GetCounts,
-        9 => Call::CpuMode { host_efer: random.word() },
-        10 => Call::PageWalkInfo,
+        9 => Call::GetXcr0,
+        10 => Call::CpuMode { host_efer: random.word() },
+        11 => Call::PageWalkInfo,
         _ => Call::Gla2gva { host_efer: random.word(), address: random.word() },
     }
 }

@@ -1,4 +1,4 @@
-//! The port's side of docs/DIFFERENCES.md: on the smallest input of each difference the archive must do what document 01 says. The names are
+//! The port's side of docs/DIFFERENCES.md: on the smallest input of each difference the archive must do what document 01 or 02 says. The names are
 //! those of oracle/differences.txt, which has the original's side; each must be here, and in a row of the document.
 
 use crate::archive;
@@ -19,6 +19,7 @@ const HOST_CR3: u32 = 0x6C02;
 const HOST_TR: u32 = 0x0C0C;
 const HOST_RSP: u32 = 0x6C14;
 const HOST_TR_BASE: u32 = 0x6C0A;
+const RIP: u32 = 0x681E;
 const FAILED: u32 = 1 << 31;
 
 /// A record and its frames, moved by the archive's calls alone.
@@ -78,6 +79,12 @@ impl Port {
 
     fn field(&mut self, encoding: u32) -> u64 {
         let reply = self.call(Call::ReadField { encoding: encoding as u64 });
+        assert_eq!(reply.number, 0);
+        reply.results.words()[0]
+    }
+
+    fn xcr0(&mut self) -> u64 {
+        let reply = self.call(Call::GetXcr0);
         assert_eq!(reply.number, 0);
         reply.results.words()[0]
     }
@@ -145,7 +152,7 @@ struct Kept {
     port: fn() -> String,
 }
 
-const KEPT: [Kept; 43] = [
+const KEPT: [Kept; 45] = [
     Kept {
         name: "bitmap length",
         document: "accepted, bytes change; byte 1,024 of A is 0x1",
@@ -365,7 +372,27 @@ const KEPT: [Kept; 43] = [
         document: "refused 20, nothing changes; refused 19, nothing changes",
         port: || {
             let with = |rcx, rax| Port::running().refused(55, |r| (r.registers[1], r.registers[0]) = (rcx, rax));
-            format!("{}; {}", with(1, 7), with(0, 7))
+            format!("{}; {}", with(1, 7), with(0, 6))
+        },
+    },
+    Kept {
+        name: "XCR0 values",
+        document: "XCR0 0x1; answer [0, 0, 0]; RIP 0x1003, XCR0 0x7",
+        port: || {
+            let mut port = Port::running();
+            let before = port.xcr0();
+            let text = answer(port.report(55, |r| r.registers[0] = 7));
+            format!("XCR0 {before:#x}; {text}; RIP {:#x}, XCR0 {:#x}", port.field(RIP), port.xcr0())
+        },
+    },
+    Kept {
+        name: "first XCR0",
+        document: "XCR0 0x0; accepted, bytes change; XCR0 0x1",
+        port: || {
+            let mut port = Port::new();
+            let before = port.xcr0();
+            let text = port.number(|port| port.setup(&usual_setup()));
+            format!("XCR0 {before:#x}; {text}; XCR0 {:#x}", port.xcr0())
         },
     },
     Kept {

@@ -18,6 +18,7 @@ mod session;
 mod setup;
 mod tally;
 mod whole;
+mod xsetbv;
 
 use oracle::generate::Random;
 use std::process::ExitCode;
@@ -29,7 +30,7 @@ struct Comparison {
     run: fn(&mut Random, u64, &mut Totals),
 }
 
-const COMPARISONS: [Comparison; 11] = [
+const COMPARISONS: [Comparison; 12] = [
     Comparison { names: &["vcpu_set_control"], run: control::run },
     Comparison { names: &["vcpu_set_io_intercept_of_range"], run: intercepts::run_ports },
     Comparison { names: &["vcpu_set_read_intercept"], run: intercepts::run_reads },
@@ -39,6 +40,7 @@ const COMPARISONS: [Comparison; 11] = [
     Comparison { names: &calls::NAMES, run: session::run },
     Comparison { names: &["vcpu_setup"], run: setup::run },
     Comparison { names: &["vcpu_exit_report"], run: report::run },
+    Comparison { names: &[], run: xsetbv::run },
     Comparison { names: &[], run: whole::run },
     Comparison { names: &[], run: kept::run },
 ];

@@ -109,7 +109,7 @@ pub fn spoil(session: &mut Session, random: &mut Random, report: &mut Report) ->
 }
 
 /// Changes a bit of CR0 or CR4 that the session's mask has, at a reason that is neither refused by 14 nor a failed entry's.
-fn spoil_masked_bit(session: &mut Session, random: &mut Random, report: &mut Report) -> bool {
+pub fn spoil_masked_bit(session: &mut Session, random: &mut Random, report: &mut Report) -> bool {
     let of_cr0 = random.chance(50);
     let mask = session.oracle.read_field(if of_cr0 { CR0_MASK } else { CR4_MASK }).expect("a field");
     let bits: Vec<u32> = (0..64).filter(|bit| mask >> bit & 1 != 0).collect();

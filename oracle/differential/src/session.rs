@@ -1,6 +1,6 @@
 //! Sequences of the calls on a session: each call on the port's record and on the original in the same state. The number, the
 //! results and every byte of the record are compared after each call: all 154 fields, registers, launched flag, waiting events, and
-//! what document 01 adds (phase, counts, capability words).
+//! what document 01 adds (phase, counts, capability words) and document 02 (XCR0, its supported bits). After each call XCR0 is read too.
 //!
 //! Where the original can't be asked (`calls::outside`), the port must refuse with document 01's number and change nothing. These are
 //! counted on lines of their own.
@@ -87,18 +87,20 @@ impl Session {
     fn set_up(&mut self, random: &mut Random) {
         let setup = random.setup();
         if self.oracle.attempt(|oracle| oracle.setup(&setup)).is_ok() {
-            self.reference.phase = record::READY;
-            self.reference.kept = setup.capabilities;
+            self.reference.set_up(&setup);
         }
     }
 
-    /// Compares our record and the replies, and goes on from equal bytes.
+    /// Compares our record, XCR0 as it is read from it, and the replies, and goes on from equal bytes.
     pub fn check(&mut self, tally: &mut Tally, expected: Reply, reply: Reply, what: impl FnOnce() -> String) {
         let image = record::image(&self.oracle, &self.reference);
+        let read = calls::port(Call::GetXcr0, self.ours.pointer(), LENGTH);
+        let read_same = read == Reply::accepted(&[(8, self.reference.xcr0)]);
         let bytes_same = self.ours.content() == image && self.ours.margins_intact();
-        tally.compare_number(expected.number, bytes_same && expected == reply, || {
+        tally.compare_number(expected.number, bytes_same && read_same && expected == reply, || {
             let differences = record::differences(self.ours.content(), &image);
-            format!("{}: expected {}, port {}; {differences:?}", what(), expected.text(), reply.text())
+            let (wanted, given, read) = (expected.text(), reply.text(), read.text());
+            format!("{}: expected {wanted}, port {given}; {differences:?}; XCR0 read: {read}", what())
         });
         if !bytes_same {
             self.ours = Buffer::new(LENGTH);

@@ -5,7 +5,7 @@
 
 use crate::archive;
 use crate::buffer::Buffer;
-use crate::calls::{BYTES_REFUSED, PHASE_REFUSED};
+use crate::calls::{self, BYTES_REFUSED, Call, PHASE_REFUSED, Reply};
 use crate::choose;
 use crate::session::Session;
 use crate::tally::{Tally, Totals};
@@ -13,7 +13,7 @@ use oracle::blocks::{SETUP_BYTES, SETUP_FLAGS};
 use oracle::generate::Random;
 use oracle::record::{self, LENGTH};
 use oracle::samples::{processors, usual_setup};
-use oracle::{Call, Capabilities, FRAME_BYTES, Setup, refusal_number};
+use oracle::{Call as Original, Capabilities, FRAME_BYTES, Setup, refusal_number};
 
 const PAIR_REFUSED: u32 = 6;
 const HOST_CR3: u32 = 0x6C02;
@@ -84,7 +84,7 @@ impl Sides {
         let saved = oracle.save();
         let theirs = match oracle.setup(&asked) {
             Ok(()) => 0,
-            Err(failure) => refusal_number(Call::Setup, &failure).expect("a number"),
+            Err(failure) => refusal_number(Original::Setup, &failure).expect("a number"),
         };
         let number = if setup.capabilities.inconsistent() { PAIR_REFUSED } else { theirs };
         if number != 0 {
@@ -92,8 +92,7 @@ impl Sides {
         } else {
             oracle.store_field(HOST_CR3, setup.host.cr3);
             oracle.store_field(HOST_TR, setup.host.tr as u64);
-            self.session.reference.phase = record::READY;
-            self.session.reference.kept = setup.capabilities.clone();
+            self.session.reference.set_up(setup);
         }
         (number, number == theirs && asked == *setup)
     }
@@ -114,7 +113,8 @@ impl Sides {
             bytes[..content.len()].copy_from_slice(&content);
         }
         let answer = self.port(LENGTHS);
-        let wrong = self.wrong_bytes(&expected);
+        let read = self.wrong_xcr0();
+        let wrong: Vec<String> = read.into_iter().chain(self.wrong_bytes(&expected)).collect();
         let tally = if asked { &mut self.inside } else { &mut self.outside };
         tally.compare_number(number, answer == number && wrong.is_empty(), || {
             format!("{setup:x?}: expected {number}, port {answer}; {wrong:?}")
@@ -147,6 +147,13 @@ impl Sides {
         self.outside.compare_number(number, answer == number && wrong.is_empty(), || {
             format!("lengths {lengths:?}, {setup:x?}: expected {number}, port {answer}; {wrong:?}")
         });
+    }
+
+    /// XCR0 as it is read, where the answers say otherwise.
+    fn wrong_xcr0(&mut self) -> Option<String> {
+        let read = calls::port(Call::GetXcr0, self.ours[0].pointer(), LENGTH);
+        let expected = Reply::accepted(&[(8, self.session.reference.xcr0)]);
+        (read != expected).then(|| format!("XCR0 read: {} and not {}", read.text(), expected.text()))
     }
 
     /// Where the buffers are not as expected.

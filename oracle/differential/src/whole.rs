@@ -8,9 +8,10 @@ use crate::choose;
 use crate::report;
 use crate::session::Session;
 use crate::tally::{Tally, Totals};
+use crate::xsetbv;
 use oracle::generate::Random;
 use oracle::record::{self, LENGTH};
-use oracle::{Answer, Call as Original, FRAME_BYTES, Outcome, Report, refusal_number};
+use oracle::{Call as Original, FRAME_BYTES, Outcome, Report, refusal_number};
 
 /// An exit for so many cases of the other comparisons.
 const SHARE: u64 = 4;
@@ -24,6 +25,7 @@ const FRAMES: [&str; 3] = ["I/O A", "I/O B", "MSR"];
 struct Counts {
     calls: Tally,
     reports: Tally,
+    xsetbv: Tally,
     sessions: u64,
     exits: u64,
     reasons: [u64; REASONS],
@@ -35,6 +37,7 @@ impl Counts {
         Counts {
             calls: Tally::new("whole sessions, calls"),
             reports: Tally::new("whole sessions, exit reports"),
+            xsetbv: Tally::new("whole sessions, XSETBV (document 02)"),
             sessions: 0,
             exits: 0,
             reasons: [0; REASONS],
@@ -42,13 +45,13 @@ impl Counts {
         }
     }
 
-    fn exit(&mut self, report: &Report, outcome: &Outcome<Answer>) {
+    fn exit(&mut self, report: &Report, expected: &Reply) {
         self.exits += 1;
         if let Some(times) = self.reasons.get_mut((report.reason & 0xFFFF) as usize) {
             *times += 1;
         }
-        if let Ok(answer) = outcome {
-            self.answers[answer.words()[0] as usize] += 1;
+        if expected.number == 0 {
+            self.answers[expected.results.words()[0] as usize] += 1;
         }
     }
 
@@ -63,6 +66,7 @@ impl Counts {
         );
         totals.add(self.calls);
         totals.add(self.reports);
+        totals.add(self.xsetbv);
     }
 }
 
@@ -111,8 +115,7 @@ impl Whole {
         let setup = random.setup();
         let outcome = self.session.oracle.attempt(|oracle| oracle.setup(&setup));
         if outcome.is_ok() {
-            self.session.reference.phase = record::READY;
-            self.session.reference.kept = setup.capabilities.clone();
+            self.session.reference.set_up(&setup);
             self.expected = self.session.oracle.frames().map(|frame| *frame);
         }
         let block = setup.block();
@@ -126,10 +129,19 @@ impl Whole {
     fn report(&mut self, random: &mut Random, counts: &mut Counts) {
         let report = random.report(&mut self.session.oracle);
         let outcome = report::original(&mut self.session, &report);
-        counts.exit(&report, &outcome);
-        let reply = report::port(&mut self.session.ours, LENGTH, &report.block());
         let expected = report::expected(&report, &outcome);
+        counts.exit(&report, &expected);
+        let reply = report::port(&mut self.session.ours, LENGTH, &report.block());
         self.check(&mut counts.reports, expected, reply, || format!("{report:x?}"));
+    }
+
+    /// XSETBV, of which document 02 decides.
+    fn xsetbv(&mut self, random: &mut Random, counts: &mut Counts) {
+        let report = xsetbv::near_report(&mut self.session, random);
+        let expected = xsetbv::expected(&mut self.session, &report);
+        counts.exit(&report, &expected);
+        let reply = report::port(&mut self.session.ours, LENGTH, &report.block());
+        self.check(&mut counts.xsetbv, expected, reply, || format!("{report:x?}"));
     }
 
     /// A report that document 01 refuses and the original does not: it changes nothing.
@@ -191,6 +203,7 @@ impl Whole {
         match self.session.reference.phase {
             record::FRESH if on => self.set_up(random, &mut counts.calls),
             record::READY if on => self.call(&mut counts.calls, Call::Entry { host_stack: random.word() }),
+            record::RUNNING if on && random.chance(10) => self.xsetbv(random, counts),
             record::RUNNING if on => self.report(random, counts),
             record::RUNNING if random.chance(5) => self.refused_report(random, &mut counts.reports),
             record::WAITING_PHASE if on => self.call(&mut counts.calls, Call::ApicValue { value: random.word() }),

@@ -4,16 +4,18 @@
 use crate::{Capabilities, HostWords, Report, Setup};
 
 /// How many numbers setup takes.
-pub const SETUP_NUMBERS: usize = 40;
-/// Their widths in bytes: 18 host words, entry, guest PAT, four addresses, 13 capability MSRs, three yes/no bytes.
+pub const SETUP_NUMBERS: usize = 41;
+/// Their widths in bytes: 18 host words, entry, guest PAT, four addresses, 13 capability MSRs, the supported bits of XCR0, three
+/// yes/no bytes.
 pub const SETUP_WIDTHS: [usize; SETUP_NUMBERS] = [
     8, 8, 8, 8, 8, 2, 2, 2, 2, 2, 2, 8, 8, 2, 8, 8, 8, 8, // host
     8, 8, // entry, guest PAT
     8, 8, 8, 8, // EPT root, I/O A, I/O B, MSR
     8, 8, 8, 8, 8, 8, 8, 8, 8, 8, 8, 8, 8, // MSRs
+    8, // supported bits of XCR0
     1, 1, 1, // RDTSCP, INVPCID, XSAVES
 ];
-pub const SETUP_BYTES: usize = 257;
+pub const SETUP_BYTES: usize = 265;
 /// Where the yes/no bytes stand.
 pub const SETUP_FLAGS: usize = SETUP_BYTES - 3;
 
@@ -37,6 +39,7 @@ impl Setup {
         numbers.extend(c.plain);
         numbers.extend(c.fixed());
         numbers.extend([secondary, pin, primary, exit, entry]);
+        numbers.push(self.xcr0_supported);
         numbers.extend([self.rdtscp, self.invpcid, self.xsaves].map(u64::from));
         numbers.try_into().expect("as many numbers as setup takes")
     }
@@ -78,9 +81,10 @@ impl Setup {
                 cr4_fixed1: n[31],
                 pairs: [n[33], n[34], n[32], n[35], n[36]],
             },
-            rdtscp: n[37] == 1,
-            invpcid: n[38] == 1,
-            xsaves: n[39] == 1,
+            xcr0_supported: n[37],
+            rdtscp: n[38] == 1,
+            invpcid: n[39] == 1,
+            xsaves: n[40] == 1,
         }
     }
 

@@ -3,7 +3,8 @@
 //! The comparable domain is where document 01 says that the Rust decides: no port that the Rust's
 //! 1,024-byte bitmaps lack, no I/O size of 8, no interruption type 1, no failed entry of a reason other
 //! than 33, 34 and 41, CR0 and CR4 as their masks demand, fixed bits that agree, a host CR3 that is a
-//! frame, a TR selector with a following descriptor.
+//! frame, a TR selector with a following descriptor. Of XSETBV document 02 decides: the comparable domain
+//! has none.
 
 use crate::{Capabilities, HostWords, Oracle, Report, Setup};
 
@@ -19,6 +20,10 @@ const CLEAR: [u32; 5] = [0, 0x19_8000, 0, 0, 0];
 
 const CR0: (u32, u32) = (0x6800, 0x6000);
 const CR4: (u32, u32) = (0x6804, 0x6002);
+
+/// Exit reasons.
+const WBINVD: u32 = 54;
+const XSETBV: u32 = 55;
 
 impl Random {
     pub fn new(seed: u64, comparable: bool) -> Self {
@@ -101,10 +106,17 @@ impl Random {
             frames: [self.word(), self.word(), self.word()],
             capabilities: self.capabilities(),
             guest_pat: self.word(),
+            xcr0_supported: self.xcr0_supported(),
             rdtscp: self.chance(50),
             invpcid: self.chance(50),
             xsaves: self.chance(50),
         }
+    }
+
+    /// Bits of XCR0 as processors support them, all but one, all, or any.
+    pub fn xcr0_supported(&mut self) -> u64 {
+        let (any, but_one) = (self.word(), !(1 << self.below(64)));
+        self.pick(&[7, 0x1F, 0xE7, 0x6_02E7, but_one, u64::MAX, any])
     }
 
     pub fn capabilities(&mut self) -> Capabilities {
@@ -229,6 +241,9 @@ impl Random {
         let mut reason = self.below(65) as u32;
         if self.chance(50) {
             reason = self.pick(&[1, 7, 10, 10, 18, 28, 28, 28, 30, 30, 31, 32, 44, 52, 55]);
+        }
+        if self.comparable && reason == XSETBV {
+            reason = WBINVD;
         }
         if self.chance(5) {
             reason |= self.word32() & 0x7FFF_0000;

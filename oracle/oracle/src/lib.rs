@@ -122,7 +122,12 @@ impl Drop for Oracle {
 
 impl Oracle {
     pub fn new() -> Self {
-        let mut machine = Box::new(Machine::new());
+        Self::on(Machine::new())
+    }
+
+    /// On a machine whose words the original reads when the vCPU is made.
+    pub fn on(machine: Machine) -> Self {
+        let mut machine = Box::new(machine);
         let vcpu = guarded(&mut machine, || VmxVcpu::new(0, 0)).expect("a new vCPU");
         Oracle { vcpu: Some(Box::new(vcpu)), machine, exit_clears_entry_valid: true }
     }
@@ -313,6 +318,10 @@ impl Oracle {
 
     pub fn registers(&self) -> [u64; 16] {
         *access::registers(self.vcpu())
+    }
+
+    pub fn guest_xcr0(&self) -> u64 {
+        access::guest_xcr0(self.vcpu())
     }
 
     pub fn launched(&self) -> bool {

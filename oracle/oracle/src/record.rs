@@ -2,10 +2,10 @@
 //! session has beyond it.
 
 use crate::calls::QUEUE_ROOM;
-use crate::{Answer, Capabilities, FIELDS, FIELDS_BEFORE_TABLE, Oracle, field_bits};
+use crate::{Answer, Capabilities, FIELDS, FIELDS_BEFORE_TABLE, Oracle, Setup, field_bits};
 use std::sync::LazyLock;
 
-pub const LENGTH: usize = 1469;
+pub const LENGTH: usize = 1485;
 pub const PHASE: usize = 0;
 pub const LAUNCHED: usize = 1;
 pub const ENTRIES: usize = 2;
@@ -17,6 +17,8 @@ const VECTORS: usize = 1069;
 const CODED: usize = 1133;
 const CODES: usize = 1141;
 pub const KEPT: usize = 1397;
+pub const XCR0: usize = 1469;
+pub const SUPPORTED: usize = 1477;
 
 pub const FRESH: u8 = 0;
 pub const READY: u8 = 1;
@@ -33,7 +35,7 @@ pub fn phase_after(answer: &Answer) -> u8 {
     }
 }
 
-/// What document 01's session has and the original has not: it follows from the calls' answers alone.
+/// What the session has and the original has not: it follows from the calls' answers alone.
 #[derive(Clone, Default)]
 pub struct Reference {
     pub phase: u8,
@@ -41,6 +43,20 @@ pub struct Reference {
     pub held: u32,
     /// The capability words of setup.
     pub kept: Capabilities,
+    /// Document 02's: 1 from setup on, then what the last accepted XSETBV brought.
+    pub xcr0: u64,
+    /// The bits of XCR0 that setup was told.
+    pub supported: u64,
+}
+
+impl Reference {
+    /// What an accepted setup leaves of it.
+    pub fn set_up(&mut self, setup: &Setup) {
+        self.phase = READY;
+        self.kept = setup.capabilities.clone();
+        self.xcr0 = 1;
+        self.supported = setup.xcr0_supported;
+    }
 }
 
 /// A field's encoding, its offset and its bytes.
@@ -98,6 +114,8 @@ pub fn image(oracle: &Oracle, reference: &Reference) -> [u8; LENGTH] {
     for (i, word) in reference.kept.pairs.into_iter().chain(reference.kept.fixed()).enumerate() {
         put(&mut record, KEPT + 8 * i, 8, word);
     }
+    put(&mut record, XCR0, 8, reference.xcr0);
+    put(&mut record, SUPPORTED, 8, reference.supported);
     record
 }
 
@@ -129,7 +147,9 @@ fn part(at: usize) -> (String, usize, usize) {
         VECTORS..CODED => indexed("vector", VECTORS, 1),
         CODED..CODES => ("codes given".to_string(), CODED, 8),
         CODES..KEPT => indexed("code", CODES, 4),
-        _ => indexed("capability word", KEPT, 8),
+        KEPT..XCR0 => indexed("capability word", KEPT, 8),
+        XCR0..SUPPORTED => ("XCR0".to_string(), XCR0, 8),
+        _ => ("supported bits of XCR0".to_string(), SUPPORTED, 8),
     }
 }
 

@@ -28,6 +28,7 @@ pub fn usual_setup() -> Setup {
             cr4_fixed0: 0x2000,
             cr4_fixed1: 0x3F_FFFF,
         },
+        xcr0_supported: 7,
         ..Setup::default()
     }
 }

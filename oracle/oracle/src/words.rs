@@ -113,6 +113,8 @@ pub struct Setup {
     pub frames: [u64; 3],
     pub capabilities: Capabilities,
     pub guest_pat: u64,
+    /// The port's alone: the original has no such word.
+    pub xcr0_supported: u64,
     pub rdtscp: bool,
     pub invpcid: bool,
     pub xsaves: bool,

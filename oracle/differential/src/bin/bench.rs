@@ -23,7 +23,7 @@ const HEADING: &str = "\
 One process, the same inputs, the median of 401 batches of each side, the batches taking turns. Nanoseconds a call.
 
 The port: calls of the C archive. Each call tests the record's bytes and reads and changes it in place; setup decodes it and writes it back whole. An exit report
-also decodes a block of 244 bytes, setup one of 257. No call keeps anything between calls.
+also decodes a block of 244 bytes, setup one of 265. No call keeps anything between calls.
 
 The Rust: the original's functions over arrays, called bare (no record, no block, nothing caught), as a release build has them: without overflow checks, all
 crates optimized together. Its state stays in memory. A field is an array access in place of VMREAD or VMWRITE, an MSR a search of a short list in place of
@@ -279,7 +279,8 @@ fn setup(bench: &mut Bench, setup: &Setup) {
     bench.oracle.load_setup(setup);
     assert!(bench.oracle.bare(|vcpu| access::setup(vcpu, setup.entry, setup.ept_root)).is_ok());
     assert_eq!(bench.port.set_up(), 0);
-    let reference = Reference { phase: record::READY, kept: setup.capabilities.clone(), ..Reference::default() };
+    let mut reference = Reference::default();
+    reference.set_up(setup);
     assert!(bench.port.record == record::image(&bench.oracle, &reference), "setup");
     let (entry, root) = (setup.entry, setup.ept_root);
     let rust = move |vcpu: &mut VmxVcpu, _| access::setup(vcpu, entry, root).is_ok() as u64;
@@ -347,12 +348,24 @@ fn usual_report(change: fn(&mut Report)) -> Report {
     report
 }
 
+/// The original panics at every value of XCR0, so the row is the port's alone.
+fn xsetbv(bench: &mut Bench) {
+    let mut report = usual_report(|r| (r.reason, r.registers[0]) = (55, 7));
+    (report.cr0, report.cr4) = (bench.port.field(0x6800), bench.port.field(0x6804));
+    bench.port.report = report.block();
+    assert_eq!((bench.port.report_running(), bench.port.answer), (0, [0; 8]));
+    let mut xcr0 = 0;
+    assert_eq!(port!(vcpu_get_xcr0(bench.port.record.as_ptr(), LENGTH, &mut xcr0)) as u64 + xcr0, 7);
+    bench.lone_row("exit report: XSETBV", 2000, |port, _| port.report_running() as u64);
+}
+
 fn reports(bench: &mut Bench) {
     for (name, change) in REPORTS {
         bench.prepare_report(usual_report(change));
         let name = format!("exit report: {name}");
         bench.row(&name, 2000, |port, _| port.report_running() as u64, |vcpu, _| run(vcpu));
     }
+    xsetbv(bench);
     bench.lone_rust_row("of each exit of the Rust: the report stored in the arrays", 2000, |vcpu, _| {
         REPORT.with_borrow(|report| report.load(vcpu, true));
         0

@@ -342,6 +342,7 @@ fn exits(sheet: &mut Sheet) {
     );
     one("reason 44, data read", 44, "refused 21", &|_| ());
     one("reason 44, undefined type 5", 44, "refused 21", &|r| r.qualification = 0x5000);
+    // Document 01 refuses every value, as the original does; the port follows document 02 (N1).
     one("reason 55, ECX 1", 55, "refused 20", &|r| r.registers[1] = 1);
     one("reason 55, RCX 0x1_00000000, XCR0 7", 55, "refused 19", &|r| (r.registers[1], r.registers[0]) = (1 << 32, 7));
     for value in [0, 1, 3, 7, 0xE7, 0x1F, 0xFF, u64::MAX] {

@@ -1,5 +1,5 @@
 //! The intended differences of docs/DIFFERENCES.md, shown on the original: for each the smallest input, what
-//! document 01 says, and what the original does.
+//! document 01 or 02 says, and what the original does.
 //!
 //!   differences [NAME]
 //!
@@ -11,7 +11,7 @@ use oracle::*;
 struct Difference {
     name: &'static str,
     input: &'static str,
-    /// What document 01 says, which the port does.
+    /// What document 01 or 02 says, which the port does.
     document: &'static str,
     original: fn() -> String,
 }
@@ -58,7 +58,10 @@ fn fields(oracle: &mut Oracle, encodings: &[u32]) -> String {
     encodings.iter().map(one).collect::<Vec<_>>().join(", ")
 }
 
-const DIFFERENCES: [Difference; 43] = [
+/// Those that document 02 decides; document 01 decides the others.
+const BY_DOCUMENT_02: [&str; 3] = ["XSETBV", "XCR0 values", "first XCR0"];
+
+const DIFFERENCES: [Difference; 45] = [
     Difference {
         name: "bitmap length",
         input: "port edit, port 0x2000, count 1",
@@ -340,11 +343,27 @@ const DIFFERENCES: [Difference; 43] = [
     },
     Difference {
         name: "XSETBV",
-        input: "exit report, reason 55, ECX 1; ECX 0, EDX:EAX 7",
+        input: "exit report, reason 55, supported bits 7, ECX 1, EDX:EAX 7; ECX 0, EDX:EAX 6",
         document: "refused 20; refused 19",
         original: || {
             let with = |rcx, rax| failing_exit(55, |r| (r.registers[1], r.registers[0]) = (rcx, rax));
-            format!("{}; {}", with(1, 7), with(0, 7))
+            format!("{}; {}", with(1, 7), with(0, 6))
+        },
+    },
+    Difference {
+        name: "XCR0 values",
+        input: "exit report, reason 55, supported bits 7, ECX 0, EDX:EAX 7",
+        document: "Nothing; RIP 0x1003, XCR0 7",
+        original: || failing_exit(55, |r| r.registers[0] = 7),
+    },
+    Difference {
+        name: "first XCR0",
+        input: "setup, on a host with XSAVE whose XCR0 is 7",
+        document: "XCR0 1",
+        original: || {
+            let mut oracle = Oracle::on(Machine { has_xsave: true, xcr0: 7, ..Machine::new() });
+            let text = failure(oracle.setup(&usual_setup()));
+            format!("{text}; XCR0 {:#x}", oracle.guest_xcr0())
         },
     },
     Difference {
@@ -502,7 +521,8 @@ fn main() {
         if only.as_deref().is_none_or(|only| only == difference.name) {
             println!("{}", difference.name);
             println!("    input: {}", difference.input);
-            println!("    document 01: {}", difference.document);
+            let document = if BY_DOCUMENT_02.contains(&difference.name) { "02" } else { "01" };
+            println!("    document {document}: {}", difference.document);
             println!("    rust: {}", (difference.original)());
         }
     }

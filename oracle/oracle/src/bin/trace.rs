@@ -29,7 +29,7 @@ fn setup_line(s: &Setup) -> String {
     numbers.extend(c.pairs);
     numbers.extend(c.plain);
     numbers.extend([c.cr0_fixed0, c.cr0_fixed1, c.cr4_fixed0, c.cr4_fixed1]);
-    numbers.extend([s.guest_pat, s.rdtscp as u64, s.invpcid as u64, s.xsaves as u64]);
+    numbers.extend([s.guest_pat, s.xcr0_supported, s.rdtscp as u64, s.invpcid as u64, s.xsaves as u64]);
     words("setup", &numbers)
 }
 

@@ -18,7 +18,7 @@ const CAPABILITIES: std::ops::Range<usize> = 25..38;
 /// The pairs of pin, primary, secondary, exit and entry.
 const PAIRS: [usize; 5] = [34, 35, 33, 36, 37];
 /// RDTSCP, INVPCID, XSAVES.
-const FLAGS: [usize; 3] = [38, 39, 40];
+const FLAGS: [usize; 3] = [39, 40, 41];
 /// The fields of the five control words.
 const CONTROL_WORDS: [u32; 5] = [0x4000, 0x4002, 0x401E, 0x400C, 0x4012];
 
@@ -50,7 +50,8 @@ impl Arguments {
         if setup.capabilities.inconsistent() && outcome != Err(6) {
             return None;
         }
-        let reference = Reference { phase: record::READY, kept: setup.capabilities, ..Reference::default() };
+        let mut reference = Reference::default();
+        reference.set_up(&setup);
         Some(outcome.map(|()| {
             let mut answer = CONTROL_WORDS.map(|encoding| oracle.read_field(encoding).expect("a field")).to_vec();
             answer.push(digest(&record::image(&oracle, &reference)));

@@ -81,6 +81,10 @@ pub fn set_launched(vcpu: &mut VmxVcpu, launched: bool) {
     vcpu.launched = launched
 }
 
+pub fn guest_xcr0(vcpu: &VmxVcpu) -> u64 {
+    vcpu.xstate.guest_xcr0
+}
+
 pub fn events(vcpu: &VmxVcpu) -> &VecDeque<(u8, Option<u32>)> {
     &vcpu.pending_events
 }

@@ -1,13 +1,13 @@
 -- Tests that tell where a rule applies, and the law by which a ladder of such tests answers the number of the first rule that applies. Assumes nothing.
 use Prim.Native.Nat.{ℕ, _≤_, _<_}
-use mathlib.Core.Path.{_≡_, refl, sym, _∙_}
+use mathlib.Core.Path.{_≡_, refl, sym, _∙_, subst}
 use mathlib.Core.Bool.{Bool, true, false, cond, not, _&&_, _||_, true≢false, false≢true}
 use mathlib.Core.List.{List, [], _∷_}
 use mathlib.Core.Logic.{_⊎_, inl, inr}
 use native.Mathlib.Omega.{arith}
 use lib.Dec.{eqb, leb, ltb}
 use borrow.Author.Tests.{eqb-true, eqb-false, leb-true, leb-false, ltb-true, ltb-false, not-true, not-false}
-use Rattle.bits.specs.Refuses.{Rule, by, Refuses}
+use Rattle.bits.specs.Refuses.{Rule, by, orElse, Refuses}
 
 -- ---- choices and tests joined
 
@@ -105,3 +105,32 @@ ladder (r ∷ rs) rest m w = go (r .test) (r .tells) (ladder rs rest m w)
     go : (t : Bool) → Tells t (r .rule .applies) → Refuses (rulesOf rs rest) (numberOn rs m) → Refuses (rulesOf (r ∷ rs) rest) (cond t (r .rule .number) (numberOn rs m))
     go true p below = inl (p .yes-so refl, refl)
     go false p below = inr (p .not-so refl, below)
+
+-- ---- a number, or another where it is 0
+
+pub both-zero : (a b : ℕ) → orElse a b ≡ 0 → (a ≡ 0) × (b ≡ 0)
+unfolding orElse
+both-zero a b = go (eqb a 0) refl
+  where
+    go : (t : Bool) → eqb a 0 ≡ t → cond t b a ≡ 0 → (a ≡ 0) × (b ≡ 0)
+    go true t e = (eqb-true a 0 t, e)
+    go false t e = absurd (eqb-false a 0 t e)
+
+-- no rung's number is 0
+abbrev pub Numbered : List Rung → Type 0
+Numbered [] = Unit {0}
+Numbered (r ∷ rs) = (eqb (r .rule .number) 0 ≡ false) × Numbered rs
+
+-- one rung before the others
+rung-then : (t : Bool) (k x y m : ℕ) → eqb k 0 ≡ false → cond (eqb x 0) m x ≡ y → cond (eqb (cond t k x) 0) m (cond t k x) ≡ cond t k y
+rung-then true k x y m some e = rw some
+rung-then false k x y m some e = e
+
+numbers-then : (rs : List Rung) → Numbered rs → (m : ℕ) → cond (eqb (numberOn rs 0) 0) m (numberOn rs 0) ≡ numberOn rs m
+numbers-then [] n m = refl
+numbers-then (r ∷ rs) n m = rung-then (r .test) (r .rule .number) (numberOn rs 0) (numberOn rs m) m (n .0) (numbers-then rs (n .1) m)
+
+-- a ladder, and after it the number of other rules
+pub ladder-then : (rs : List Rung) → Numbered rs → (rest : List Rule) (m : ℕ) → Refuses rest m → Refuses (rulesOf rs rest) (orElse (numberOn rs 0) m)
+unfolding orElse
+ladder-then rs n rest m w = subst (Refuses (rulesOf rs rest)) (sym (numbers-then rs n m)) (ladder rs rest m w)

@@ -2,7 +2,7 @@
 use Prim.Native.Nat.{ℕ, _+_, _-_, _/_, _%_, _^_, _<_, _≤_}
 use mathlib.Core.Path.{_≡_, refl, sym, ap, _∙_, subst}
 use mathlib.Core.Bool.{Bool, true, false, cond, not, _&&_, _||_, and-true, and-false}
-use mathlib.Core.List.{[], _∷_}
+use mathlib.Core.List.{List, [], _∷_}
 use mathlib.Core.Logic.{_⊎_, _≢_}
 use native.Mathlib.Decide.{ℕ-discrete}
 use native.Mathlib.Omega.{arith}
@@ -10,12 +10,12 @@ use lib.Bits.{bitAnd}
 use lib.Dec.{T, eqb, leb, ltb, eqb→eq}
 use lib.ListN.{getD}
 use borrow.Author.Tests.{eqb-true, eqb-false, ltb-true, ltb-false, eq-eqb, le-leb, lt-leb}
-use Rattle.bits.specs.Words.{bit, flag, Within}
+use Rattle.bits.specs.Words.{bit, flag}
 use Rattle.bits.proofs.AllBelow.{at}
 use Rattle.bits.proofs.BitLaws.{is-flag, bit-and, same-bits}
-use Rattle.bits.proofs.WordLaws.{is-true, within-of, within-eq}
-use Rattle.bits.specs.Refuses.{by, Refuses}
-use Rattle.bits.proofs.Tells.{Tells, tells-eq, tells-leb, tells-ltb, tells-on, tells-off, tells-and, tells-or, tells-not, tells-as, tells-is, rung, ladder}
+use Rattle.bits.proofs.WordLaws.{is-true}
+use Rattle.bits.specs.Refuses.{Rule, by, orElse, Refuses}
+use Rattle.bits.proofs.Tells.{Tells, tells-eq, tells-leb, tells-ltb, tells-on, tells-off, tells-and, tells-or, tells-not, tells-as, tells-is, Rung, rung, numberOn, rulesOf, ladder, ladder-then}
 use Rattle.regs.specs.Registers.{listOf}
 use Rattle.definitions.specs.Interruption.{typeNumber, typeNumbered, typeOf}
 use Rattle.vmcs.specs.Efer.{isLongMode, lacksIa32e, updateEfer}
@@ -35,6 +35,7 @@ use Rattle.vcpu_report.specs.ExitReport.{phaseAfter, xcr0After}
 use Rattle.calls.specs.Reference.{choose, both, either, basicReason, ecxOf, edxEax, NamesApic, namesApic, awaitsValue, Agree, MovToCr, movSource, advance, UnknownReason, Xcr0Allowed, SetsIa32e, exitRules, reportRules}
 use Rattle.calls.specs.Calls.{wordsOf}
 use Rattle.calls.proofs.Choices.{chosen, choose-ap}
+use Rattle.calls.proofs.SetupNumbers.{within-tells}
 
 -- ---- tests that tell
 
@@ -181,9 +182,6 @@ with-tells i j a =
     go true e f = let z = eqb-true (digit j a) 1 (f e) in omega arith
     go false e f = let z = eqb-false (digit i a) 1 e in omega arith
 
-within-tells : (a b : ℕ) → Tells (eqb (bitAnd a b) a) (Within a b)
-within-tells a b = tells-as (tells-eq (bitAnd a b) a) (within-of a b) (within-eq a b)
-
 -- the core's test is the rule as the request has it, for all numbers
 pub allowed-tells : (supported value : ℕ) → Tells (xcr0Allowed supported value) (Xcr0Allowed supported value)
 unfolding xcr0Allowed
@@ -267,24 +265,15 @@ module _ (s : Session) (r : Report) (l : Lawful s) where
   exit-refuses : Refuses (exitRules (wordsOf s) r) (cond (ownedBitsDiffer (s .vmcs) r) 15 (exitRefusal pair entryWord (s .xcr0 .supported) r))
   unfolding reasonRefusal exitRefusal
   exit-refuses =
-      subst (λ (n : ℕ). Refuses (exitRules (wordsOf s) r) (cond (ownedBitsDiffer (s .vmcs) r) 15 n))
-      (sym (in-line (noInterrupt r) (otherAccess r) (otherXcr r) (refusedXcr0 (s .xcr0 .supported) r) (eqb (basicReason r) 44) _))
-      (ladder
-      (rung 15 (differ-tells s r) ∷ rung 16 (interrupt-tells r) ∷ rung 18 (access-tells r) ∷ rung 20 (xcr-tells r) ∷ rung 19 (xcr0-tells (s .xcr0 .supported) r)
-      ∷ rung 21 (tells-eq (basicReason r) 44) ∷ rung 17 (end-tells r) ∷ [])
-      (by 8 (SetsIa32e r × (bit 9 (pair .allowed1) ≡ false)) ∷ []) (eferRefusal pair entryWord r)
-      (subst (Refuses (by 8 (SetsIa32e r × (bit 9 (pair .allowed1) ≡ false)) ∷ [])) (sym (efer-number pair entryWord r))
-      (ladder (rung 8 (stuck-tells pair r) ∷ []) [] 0 refl)))
-    where
-      -- the numbers of the reason and those after them, as one ladder
-      in-line : (a b c d e : Bool) (m : ℕ) → cond (eqb (cond a 16 (cond b 18 (cond c 20 (cond d 19 (cond e 21 0))))) 0) m (cond a 16 (cond b 18 (cond c 20 (cond d 19 (cond e 21 0)))))
-          ≡ cond {A = ℕ} a 16 (cond b 18 (cond c 20 (cond d 19 (cond e 21 m))))
-      in-line true b c d e m = refl
-      in-line false true c d e m = refl
-      in-line false false true d e m = refl
-      in-line false false false true e m = refl
-      in-line false false false false true m = refl
-      in-line false false false false false m = refl
+      let eight : List Rule = by 8 (SetsIa32e r × (bit 9 (pair .allowed1) ≡ false)) ∷ [] in
+      let end : List Rule = by 17 (2 ^ 64 ≤ r .rip + advance r) ∷ eight in
+      let reason : List Rung
+      = rung 16 (interrupt-tells r) ∷ rung 18 (access-tells r) ∷ rung 20 (xcr-tells r) ∷ rung 19 (xcr0-tells (s .xcr0 .supported) r) ∷ rung 21 (tells-eq (basicReason r) 44) ∷ [] in
+      let last = cond (pastEnd r) 17 (eferRefusal pair entryWord r) in
+      ladder (rung 15 (differ-tells s r) ∷ []) (rulesOf reason end) (orElse (numberOn reason 0) last)
+      (ladder-then reason (refl, (refl, (refl, (refl, (refl, tt))))) end last
+      (ladder (rung 17 (end-tells r) ∷ []) eight (eferRefusal pair entryWord r)
+      (subst (Refuses eight) (sym (efer-number pair entryWord r)) (ladder (rung 8 (stuck-tells pair r) ∷ []) [] 0 refl))))
 
   pub report-refuses : Refuses (reportRules (wordsOf s) r) (reportRefusal s r)
   unfolding reportRefusal

@@ -1,17 +1,17 @@
 -- Setup is refused exactly where the reference's rules say. Assumes nothing.
 use Prim.Native.Nat.{ℕ, _+_, _*_}
 use mathlib.Core.Path.{_≡_, refl, sym, ap, _∙_, subst}
-use mathlib.Core.Bool.{Bool, true, false, cond, not, _&&_, true≢false, false≢true}
+use mathlib.Core.Bool.{Bool, true, false, _&&_, true≢false, false≢true}
 use mathlib.Core.List.{List, [], _∷_, _++_}
 use mathlib.Core.Logic.{_≢_, inl, inr}
 use lib.Bits.{bitAnd}
 use lib.Dec.{eqb, leb}
 use lib.ListN.{length, drop}
 use borrow.Author.Tests.{eqb-true, leb-true, eq-eqb, le-leb}
-use Rattle.bits.specs.Refuses.{Rule, by, Refuses}
+use Rattle.bits.specs.Refuses.{Rule, by, Refuses, orElse}
 use Rattle.bits.specs.Words.{flag, Within, Apart}
 use Rattle.bits.specs.LittleEndian.{littleEndian}
-use Rattle.bits.proofs.Tells.{Tells, tells-eq, tells-not, tells-as, rung, ladder, cond-all}
+use Rattle.bits.proofs.Tells.{Tells, tells-eq, tells-not, tells-as, rung, ladder, cond-all, ladder-then}
 use Rattle.bits.proofs.WordLaws as W
 use Rattle.vmcs.specs.Control.{pairAt}
 use Rattle.vmcs.specs.declared.controls.Pair.{Pair}
@@ -20,7 +20,7 @@ use Rattle.vcpu_session.proofs.LawfulLaws.{of-lawful}
 use Rattle.vcpu_session.specs.declared.Capabilities.{Capabilities}
 use Rattle.vcpu_session.specs.declared.Session.{Session}
 use Rattle.vcpu_setup.specs.Capability.{capabilitiesOf}
-use Rattle.vcpu_setup.specs.Words.{secondarySet, bitsRefusal, orElse, wordsRefusal}
+use Rattle.vcpu_setup.specs.Words.{secondarySet, bitsRefusal, wordsRefusal}
 use Rattle.vcpu_setup.specs.Setup.{consistent, capabilityRefusal, setupRefusal}
 use Rattle.vcpu_setup.specs.declared.Features.{Features}
 use Rattle.blocks.specs.SetupLayout as Layout
@@ -105,7 +105,7 @@ consistent-tells c = record { yes-so = consistent-of c; not-so = λ e l. true≢
 
 -- ---- 8 and 9, word by word
 
-within-tells : (a b : ℕ) → Tells (eqb (bitAnd a b) a) (Within a b)
+pub within-tells : (a b : ℕ) → Tells (eqb (bitAnd a b) a) (Within a b)
 within-tells a b = tells-as (tells-eq (bitAnd a b) a) (W.within-of a b) (W.within-eq a b)
 
 apart-tells : (a b : ℕ) → Tells (eqb (bitAnd a b) 0) (Apart a b)
@@ -113,17 +113,9 @@ apart-tells a b = tells-as (tells-eq (bitAnd a b) 0) (W.apart-of a b) (W.apart-e
 
 word-refuses : (p : Pair) (set clear n : ℕ) (rest : List Rule) → Refuses rest n
     → Refuses (wordRules (pairBounds p) set clear ++ rest) (orElse (bitsRefusal p set clear) n)
-unfolding orElse bitsRefusal
+unfolding bitsRefusal
 word-refuses p set clear n rest w =
-    let eight = not (eqb (bitAnd set (p .allowed1)) set) in
-    let nine = not (eqb (bitAnd (p .allowed0) clear) 0) in
-    rw (joined eight nine n)
-    (ladder (rung 8 (tells-not (within-tells set (p .allowed1))) ∷ rung 9 (tells-not (apart-tells (p .allowed0) clear)) ∷ []) rest n w)
-  where
-    joined : (a b : Bool) (n : ℕ) → cond (eqb (cond a 8 (cond b 9 0)) 0) n (cond a 8 (cond b 9 0)) ≡ cond a 8 (cond b 9 n)
-    joined true b n = refl
-    joined false true n = refl
-    joined false false n = refl
+    ladder-then (rung 8 (tells-not (within-tells set (p .allowed1))) ∷ rung 9 (tells-not (apart-tells (p .allowed0) clear)) ∷ []) (refl, (refl, tt)) rest n w
 
 or-none : (a : ℕ) → orElse a 0 ≡ a
 unfolding orElse

@@ -4,6 +4,7 @@ use mathlib.Core.Bool.{Bool, false, cond, not}
 use Prim.Native.Nat.{ℕ}
 use native.Mathlib.Omega.{arith}
 use lib.Dec.{eqb}
+use Rattle.bits.proofs.Tells.{both-zero}
 use Rattle.vmcs.specs.Field.{valueOf}
 use Rattle.vmcs.specs.Names.VmcsControl32 as VmcsControl32
 use Rattle.vcpu_session.specs.Phase as Phase
@@ -12,7 +13,7 @@ use Rattle.vcpu_session.specs.declared.Session.{Session}
 use Rattle.vcpu_exit.specs.Reading.{failed, pastEnd}
 use Rattle.vcpu_exit.specs.Refusal.{unknownReason, ownedBitsDiffer, noInterrupt, otherAccess, eferRefusal, entryPair, reasonRefusal, exitRefusal, reportRefusal}
 use Rattle.vcpu_exit.specs.declared.Report.{Report}
-use Rattle.vcpu_exit.proofs.Conds.{passed, both-none}
+use Rattle.vcpu_exit.proofs.Conds.{passed}
 
 pub record Passed (s : Session) (r : Report) : Type 0 where
   pub lawful : isUnlawful s ≡ false
@@ -33,7 +34,7 @@ passes s r e f =
     let b = passed (not (eqb (s .progress .phase) Phase.RUNNING)) 1 _ (omega arith) (a .1) in
     let d = passed (unknownReason r) 14 _ (omega arith) (b .1) in
     let g = passed (ownedBitsDiffer (s .vmcs) r) 15 _ (omega arith) (not-failed (failed r) _ f (d .1)) in
-    let x = both-none (reasonRefusal (s .xcr0 .supported) r) _ (g .1) in
+    let x = both-zero (reasonRefusal (s .xcr0 .supported) r) _ (g .1) in
     let h = passed (noInterrupt r) 16 _ (omega arith) (x .0) in
     let i = passed (otherAccess r) 18 _ (omega arith) (h .1) in
     let m = passed (pastEnd r) 17 _ (omega arith) (x .1) in

@@ -4,6 +4,7 @@ use mathlib.Core.Bool.{Bool, cond, not, _&&_, _||_}
 use lib.Bits.{bitAnd}
 use lib.Dec.{eqb, leb}
 use Rattle.bits.specs.Words.{low32}
+use Rattle.bits.specs.Refuses.{orElse}
 use Rattle.definitions.specs.VmxExitReason as VmxExitReason
 use Rattle.definitions.specs.Interruption.{typeNumber, typeOf}
 use Rattle.vmcs.specs.Control.{pairAt}
@@ -81,9 +82,9 @@ reasonRefusal supported r =
 -- passes 2^64 - 1; 8: above
 unfoldable pub exitRefusal : Pair → ℕ → ℕ → Report → ℕ
 exitRefusal pair entry supported r =
-    cond (eqb (reasonRefusal supported r) 0)
-    (cond (pastEnd r) 17 (eferRefusal pair entry r))
-    (reasonRefusal supported r)
+    orElse (reasonRefusal supported r)
+    (cond (pastEnd r) 17
+    (eferRefusal pair entry r))
 
 -- 2: no record holds the session. 1: not running. 14: above, and a failed entry meets nothing more. 15: above. Then those of the exit
 unfoldable pub reportRefusal : Session → Report → ℕ

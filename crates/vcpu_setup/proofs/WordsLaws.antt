@@ -6,17 +6,17 @@ use Prim.Native.Nat.{ℕ, zero, suc, _<_, _^_}
 use native.Mathlib.Omega.{arith}
 use native.Mathlib.Nat.{lt-of-le-of-lt}
 use lib.Bits.{bitAnd, bitOr, and-le-l}
-use lib.Dec.{T, eqb, eqb→eq, eqb·suc-zero, lit<}
+use lib.Dec.{T, eqb, eqb→eq, lit<}
 use lib.ListN.{getD}
 use borrow.Author.Tests.{eqb-true}
 use Rattle.bits.specs.Words.{bitNot, bit, Within, Permitted}
-use Rattle.bits.proofs.BitLaws.{bit-and, bit-or, bit-not}
+use Rattle.bits.proofs.Tells.{both-zero}
 use Rattle.bits.proofs.WordLaws as W
 use Rattle.vmcs.specs.Control.{pairAt, controlWord, EachPermitted}
 use Rattle.vmcs.specs.Cr.{cr0Free, cr0Off, cr0Words, cr4Words}
 use Rattle.vmcs.specs.declared.controls.Pair.{Pair}
 use Rattle.vmcs.proofs.ControlLaws.{control-permitted, five}
-use Rattle.vcpu_setup.specs.Words.{pinSet, primarySet, primaryClear, secondarySet, exitSet, entrySet, bitsRefusal, orElse, wordsRefusal, setupWords}
+use Rattle.vcpu_setup.specs.Words.{pinSet, primarySet, primaryClear, secondarySet, exitSet, entrySet, bitsRefusal, wordsRefusal, setupWords}
 use Rattle.vcpu_setup.specs.Setup.{pairConsistent}
 use Rattle.vcpu_setup.specs.declared.Features.{Features}
 use Rattle.vcpu_setup.specs.Laws.{Owns}
@@ -29,11 +29,6 @@ settable : (pair : Pair) (set clear : ℕ) → bitsRefusal pair set clear ≡ 0 
 unfolding bitsRefusal
 settable pair set clear e =
     W.within-of set (pair .allowed1) (eqb-true _ _ (no-eight (eqb (bitAnd set (pair .allowed1)) set) (eqb (bitAnd (pair .allowed0) clear) 0) e))
-
-both-zero : (a b : ℕ) → orElse a b ≡ 0 → (a ≡ 0) × (b ≡ 0)
-unfolding orElse
-both-zero zero b e = (refl, e)
-both-zero (suc a) b e = absurd (let z : suc a ≡ 0 = rw (eqb·suc-zero a) at e in omega arith)
 
 module _ (pairs : List Pair) (olds : List ℕ) (f : Features)
     (consistent : T (pairConsistent (pairAt pairs 0) && pairConsistent (pairAt pairs 1) && pairConsistent (pairAt pairs 2) && pairConsistent (pairAt pairs 3) && pairConsistent (pairAt pairs 4)))

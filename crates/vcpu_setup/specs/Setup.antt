@@ -47,7 +47,7 @@ setupRefusal s c f =
     (cond (not (eqb (s .progress .phase) Phase.FRESH)) 1
     (capabilityRefusal c f))
 
--- ready, with the fields written, the capabilities and the supported bits of XCR0 kept, and XCR0 as at reset, X87 alone (document 02, N1; SDM 1, 13.3); the counts and
+-- ready, with the fields written, the capabilities and the supported bits of XCR0 kept, and XCR0 as at reset, X87 alone (document 02, N1; SDM 3A, 2.6); the counts and
 -- every other part stay
 unfoldable pub readied : Session → Arguments → Capabilities → Session
 readied s a c =

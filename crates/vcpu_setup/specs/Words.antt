@@ -6,6 +6,7 @@ use lib.Bits.{bitAnd, bitOr}
 use lib.Dec.{eqb}
 use lib.ListN.{getD}
 use Rattle.bits.specs.Words.{shl, flag, maskOf}
+use Rattle.bits.specs.Refuses.{orElse}
 use Rattle.vmcs.specs.Control.{controlWord, pairAt}
 use Rattle.vmcs.specs.Flags.PinbasedControls as PinbasedControls
 use Rattle.vmcs.specs.Flags.PrimaryControls as PrimaryControls
@@ -50,10 +51,6 @@ unfoldable pub bitsRefusal : Pair → ℕ → ℕ → ℕ
 bitsRefusal pair set clear =
     cond (not (eqb (bitAnd set (pair .allowed1)) set)) 8
     (cond (not (eqb (bitAnd (pair .allowed0) clear) 0)) 9 0)
-
--- the first of two refusals, where 0 is none
-unfoldable pub orElse : ℕ → ℕ → ℕ
-orElse first second = cond (eqb first 0) second first
 
 -- word by word
 unfoldable pub wordsRefusal : List Pair → Features → ℕ

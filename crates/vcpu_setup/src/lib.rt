@@ -5,10 +5,11 @@ pub mod bitmaps;
 
 ghost use mathlib.Core.Path.{_≡_};
 ghost use Prim.Native.Nat.{_<_};
+ghost use Rattle.bits.specs.Refuses.{orElse};
 ghost use Rattle.vmcs.specs.Field.{Word16, Word32, Natural};
 ghost use Rattle.vmcs.specs.Writes.{applied};
 ghost use Rattle.vcpu_setup.specs.Capability.{halves, fixedWords, pairsOf, oldsOf, capabilitiesOf};
-ghost use Rattle.vcpu_setup.specs.Words.{secondarySet, setupWord, setupWords, bitsRefusal, orElse, wordsRefusal};
+ghost use Rattle.vcpu_setup.specs.Words.{secondarySet, setupWord, setupWords, bitsRefusal, wordsRefusal};
 ghost use Rattle.vcpu_setup.specs.Writes.{hostSet, crSet, segmentWrites, segmentsSet, guestSet, controlSet, vmcsSet};
 ghost use Rattle.vcpu_setup.specs.Setup.{pairConsistent, fixedConsistent, consistent, capabilityRefusal, setupRefusal, readied, setupOf};
 use definitions::Refusal;
@@ -510,7 +511,7 @@ fn setup_refusal(s: Session, c: Capabilities, f: Features) -> u32
     capability_refusal(c, f)
 }
 
-// XCR0 at reset (SDM 1, 13.3): X87 alone.
+// XCR0 at reset (SDM 3A, 2.6): X87 alone.
 const X87: u64 = 1 << XCr0Flags::X87;
 
 // The session of an accepted setup.

@@ -1,12 +1,13 @@
 -- `vcpu_exit::exit_refusal` meets its contract. Assumes nothing.
 use borrow.Author.Needs.{needs}
+use Rattle.bits.specs.Refuses.{orElse}
 use Rattle.bits.proofs.Tests.{answers}
 use Rattle.vcpu_exit.specs.Refusal.{exitRefusal}
 use Rattle.vcpu_exit.proofs.exit_refusal.Statement.{statement}
 use Rattle.vcpu_exit.proofs.exit_refusal.Tie as tie
 
 pub exit-refusal-spec : {M : Type 1} → statement M
-unfolding exitRefusal
+unfolding exitRefusal orElse
 exit-refusal-spec =
     tie.close
     (tie.spec

@@ -1,6 +1,6 @@
 -- `vcpu_setup::or_else` meets its contract. Assumes nothing.
 use Rattle.bits.proofs.Tests.{answers}
-use Rattle.vcpu_setup.specs.Words.{orElse}
+use Rattle.bits.specs.Refuses.{orElse}
 use Rattle.vcpu_setup.proofs.or_else.Statement.{statement}
 use Rattle.vcpu_setup.proofs.or_else.Tie as tie
 

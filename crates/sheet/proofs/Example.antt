@@ -2,7 +2,7 @@
 use mathlib.Core.Path.{_≡_, refl}
 use mathlib.Core.List.{flatMap}
 use Rattle.vmcs.specs.Control.{controlWord, setControl}
-use Rattle.sheet.specs.Hex.{hexDigit, digitValue, hexNumber}
+use Rattle.text.specs.Hex.{hexDigit, digitValue, hexNumber}
 use Rattle.sheet.specs.Line.{onlyLetters, wordAt, andThen, wordsFrom, caseOf, answerText, printedLine}
 use Rattle.sheet.specs.Sheet.{linesOf, printedLines, sheetOf}
 use Rattle.sheet.specs.Example.{exampleInput, exampleOutput}

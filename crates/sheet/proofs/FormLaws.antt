@@ -11,14 +11,14 @@ use borrow.Author.Tests.{eqb-true, eq-eqb, le-ltb}
 use lib.Dec.{eqb}
 use lib.ListN.{length, getD, take, drop, length-append, length-take, length-drop, take-append-drop, drop-of-length-le}
 use lib.Seq.{drop-cons, drop-drop, take-at, drop-at, getD-at}
-use Rattle.sheet.specs.Hex.{hexDigits, hexNumber}
+use Rattle.text.specs.Hex.{hexDigits, hexNumber}
 use Rattle.sheet.specs.Line.{onlyLetters, wordAt, andThen, wordsFrom, caseOf, badText, caseText, printedLine}
 use Rattle.sheet.specs.Form.{wordText, IsCase, Prints}
-use Rattle.sheet.specs.declared.hex.Parsed.{Parsed}
-use Rattle.sheet.specs.declared.hex.Parsed.the-variants.{Number, Malformed}
+use Rattle.text.specs.declared.hex.Parsed.{Parsed}
+use Rattle.text.specs.declared.hex.Parsed.the-variants.{Number, Malformed}
 use Rattle.sheet.specs.declared.line.Case.{Case}
 use Rattle.sheet.specs.declared.line.Case.the-variants.{Words, Bad}
-use Rattle.sheet.proofs.HexLaws.{number-digits, digits-number}
+use Rattle.text.proofs.HexLaws.{number-digits, digits-number}
 use Rattle.sheet.proofs.LineLaws.{IsWords, case-ind, name-within}
 
 -- ---- one word

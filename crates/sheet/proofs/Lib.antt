@@ -1,4 +1,3 @@
-pub mod HexLaws
 pub mod LineLaws
 pub mod SheetLaws
 pub mod FormLaws

@@ -14,11 +14,11 @@ use lib.Seq.{drop-cons}
 use Rattle.vmcs.specs.Control.{controlWord, setControl}
 use Rattle.vmcs.specs.declared.controls.ControlAnswer.{ControlAnswer}
 use Rattle.vmcs.specs.declared.controls.ControlAnswer.the-variants.{Word, Refused}
-use Rattle.sheet.specs.Hex.{hexNumber}
-use Rattle.sheet.specs.declared.hex.Parsed.{Parsed}
-use Rattle.sheet.specs.declared.hex.Parsed.the-variants.{Number, Malformed}
+use Rattle.text.specs.Put.{putAt}
+use Rattle.text.specs.Hex.{hexNumber}
+use Rattle.text.specs.declared.hex.Parsed.{Parsed}
+use Rattle.text.specs.declared.hex.Parsed.the-variants.{Number, Malformed}
 use Rattle.sheet.specs.Line.{onlyLetters, wordAt, andThen, wordsFrom, caseOf, answerText, badText, caseText, printedLine}
-use Rattle.sheet.specs.Sheet.{putAt}
 use Rattle.sheet.specs.declared.line.Case.{Case}
 use Rattle.sheet.specs.declared.line.Case.the-variants.{Words, Bad}
 

@@ -6,8 +6,8 @@ use mathlib.Core.Bool.{true}
 use mathlib.Core.List.{List, _++_}
 use lib.ListN.{length}
 use Rattle.vmcs.specs.Control.{setControl}
-use Rattle.sheet.specs.Ascii.{ascii}
-use Rattle.sheet.specs.Hex.{hexDigits}
+use Rattle.text.specs.Ascii.{ascii}
+use Rattle.text.specs.Hex.{hexDigits}
 use Rattle.sheet.specs.Line.{onlyLetters, answerText, badText}
 
 -- a word of a line, after the tab that parts it from what stands before it

@@ -1,6 +1,4 @@
 -- The definitions that the contracts of `sheet` cite, and what its theorems say.
-pub mod Ascii
-pub mod Hex
 pub mod Line
 pub mod Form
 pub mod Sheet

@@ -8,10 +8,10 @@ use lib.ListN.{length, getD, take, drop}
 use Rattle.vmcs.specs.Control.{setControl}
 use Rattle.vmcs.specs.declared.controls.ControlAnswer.{ControlAnswer}
 use Rattle.vmcs.specs.declared.controls.ControlAnswer.the-variants.{Word, Refused}
-use Rattle.sheet.specs.Ascii.{ascii}
-use Rattle.sheet.specs.Hex.{hexDigits, hexNumber}
-use Rattle.sheet.specs.declared.hex.Parsed.{Parsed}
-use Rattle.sheet.specs.declared.hex.Parsed.the-variants.{Number, Malformed}
+use Rattle.text.specs.Ascii.{ascii}
+use Rattle.text.specs.Hex.{hexDigits, hexNumber}
+use Rattle.text.specs.declared.hex.Parsed.{Parsed}
+use Rattle.text.specs.declared.hex.Parsed.the-variants.{Number, Malformed}
 use Rattle.sheet.specs.declared.line.Case.{Case}
 use Rattle.sheet.specs.declared.line.Case.the-variants.{Words, Bad}
 

@@ -1,11 +1,11 @@
 -- The whole text: its lines, and what is printed for them (document 01, "Worked by hand"). Assumes nothing.
-use Prim.Native.Nat.{ℕ, suc, _+_}
+use Prim.Native.Nat.{ℕ, suc}
 use Prim.Native.Char.{code}
 use mathlib.Core.Bool.{cond}
-use mathlib.Core.List.{List, [], _∷_, _++_, flatMap}
+use mathlib.Core.List.{List, [], _∷_, flatMap}
 use lib.Dec.{ltb, eqb}
-use lib.ListN.{length, take, drop}
-use Rattle.sheet.specs.Ascii.{ascii}
+use lib.ListN.{length}
+use Rattle.text.specs.Ascii.{ascii}
 use Rattle.sheet.specs.Line.{printedLine}
 
 -- the lines with a byte before the first
@@ -32,7 +32,3 @@ sheetOf text = cond (ltb 65536 (length text)) tooLong (printedLines text)
 unfoldable pub lineLength : List ℕ → ℕ
 lineLength [] = 0
 lineLength (b ∷ rest) = cond (eqb b (code "\n")) 0 (suc (lineLength rest))
-
--- a buffer with a text put into it at a place
-unfoldable pub putAt : List ℕ → ℕ → List ℕ → List ℕ
-putAt buffer at text = take at buffer ++ (text ++ drop (at + length text) buffer)

@@ -1,14 +1,13 @@
 // The program casesheet of document 01, as a function from the text that it reads to the text that it prints; and that from a file to standard output.
 pub mod file;
-mod hex;
 mod line;
-mod text;
 
 ghost use mathlib.Core.Path.{_≡_};
 ghost use mathlib.Core.List.{_++_};
 ghost use Prim.Native.Nat.{_≤_};
 ghost use lib.ListN.{length, drop};
-ghost use Rattle.sheet.specs.Sheet.{sheetOf, printedLines, putAt};
+ghost use Rattle.text.specs.Put.{putAt};
+ghost use Rattle.sheet.specs.Sheet.{sheetOf, printedLines, lineLength};
 
 // The longest text that is taken.
 pub const LONGEST: usize = 65536;
@@ -27,6 +26,21 @@ pub fn sheet(input: &[u8], output: &mut [u8; ROOM]) -> usize
     put_lines(input, output)
 }
 
+// How many bytes stand before the first line feed.
+fn line_length(s: &[u8]) -> usize
+    ensures { λ r. ⌜ r ≡ lineLength (now (s .entry)) ⌝ }
+    ensures { λ r. ⌜ r ≤ length (now (s .entry)) ⌝ }
+{
+    let mut i = 0;
+    while i < s.len() {
+        if s[i] == b'\n' {
+            return i;
+        }
+        i += 1;
+    }
+    i
+}
+
 // Puts what is printed for each line of a text, one after the other.
 fn put_lines(input: &[u8], output: &mut [u8]) -> usize
     requires { ⌜ length (printedLines (now input)) ≤ length (now output) ⌝ }
@@ -37,7 +51,7 @@ fn put_lines(input: &[u8], output: &mut [u8]) -> usize
     let mut at = 0;
     while from < input.len() {
         let rest = &input[from..];
-        let n = text::line_length(rest);
+        let n = line_length(rest);
         at = line::put_line(&rest[..n], output, at);
         from = from + n + 1;
     }

@@ -3,11 +3,10 @@ ghost use mathlib.Core.Path.{_≡_};
 ghost use Prim.Native.Nat.{_+_, _≤_};
 ghost use lib.ListN.{length};
 ghost use Rattle.vmcs.specs.declared.controls.ControlAnswer.the-variants.{Word, Refused};
+ghost use Rattle.text.specs.Put.{putAt};
 ghost use Rattle.sheet.specs.Line.{onlyLetters, wordAt, wordsFrom, caseOf, answerText, printedLine};
-ghost use Rattle.sheet.specs.Sheet.{putAt};
-use crate::hex;
-use crate::hex::Parsed;
-use crate::text;
+use text::hex;
+use text::hex::Parsed;
 use vmcs::controls::ControlAnswer;
 use vmcs::controls::Pair;
 
@@ -101,18 +100,8 @@ fn read(line: &[u8]) -> Case
 fn word_text(w: u32) -> [u8; 10]
     ensures { λ r. ⌜ r ≡ answerText (Word w) ⌝ }
 {
-    [
-        b'\t',
-        hex::digit(w / 0x1000_0000 % 16),
-        hex::digit(w / 0x100_0000 % 16),
-        hex::digit(w / 0x10_0000 % 16),
-        hex::digit(w / 0x1_0000 % 16),
-        hex::digit(w / 0x1000 % 16),
-        hex::digit(w / 0x100 % 16),
-        hex::digit(w / 0x10 % 16),
-        hex::digit(w % 16),
-        b'\n',
-    ]
+    let d = hex::digits(w);
+    [b'\t', d[0], d[1], d[2], d[3], d[4], d[5], d[6], d[7], b'\n']
 }
 
 fn refused_text(n: u32) -> [u8; 11]

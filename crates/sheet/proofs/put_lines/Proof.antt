@@ -6,9 +6,11 @@ use mathlib.Core.Path.{_≡_, refl, sym, ap, _∙_}
 use mathlib.Core.List.{_++_}
 use lib.ListN.{length, take, drop, length-append}
 use lib.Seq.{length-take-le}
+use Rattle.text.specs.Put.{putAt}
+use Rattle.text.proofs.PutLaws.{put-none, one-put}
 use Rattle.sheet.specs.Line.{printedLine}
-use Rattle.sheet.specs.Sheet.{printedLines, putAt}
-use Rattle.sheet.proofs.SheetLaws.{put-none, one-put, printed-more, printed-end}
+use Rattle.sheet.specs.Sheet.{printedLines}
+use Rattle.sheet.proofs.SheetLaws.{printed-more, printed-end}
 use Rattle.sheet.proofs.put_lines.Statement.{statement}
 use Rattle.sheet.proofs.put_lines.Tie as tie
 

@@ -1,14 +1,17 @@
 -- `sheet::file::print_sheet` meets its contract: the count that `sheet` answers is within its output. Assumes nothing.
 use mathlib.Core.Path.{sym}
+use lib.ListN.{take}
 use lib.Seq.{length-take-le}
 use borrow.Author.Needs.{needs}
-use native.Mathlib.Omega.{arith}
-use lib.ListN.{length-append}
+use Rattle.sheet.specs.Sheet.{sheetOf}
+use Rattle.text.proofs.PutLaws.{first-within}
 use Rattle.sheet.proofs.file.print_sheet.Statement.{statement}
 use Rattle.sheet.proofs.file.print_sheet.Tie as tie
 
 array-share-prefix-output : tie.Need-array-share-prefix-output
-array-share-prefix-output c = rw (c .sheet .ensures .1, length-append) (omega (arith, c .sheet .ensures .0))
+array-share-prefix-output c =
+    let r = c .before .before .before .before .read-full in
+    first-within _ _ (sheetOf (take (r .result) (r .last .1 .0))) _ (c .sheet .ensures .0) (c .sheet .ensures .1)
 
 slice-aggregate-write-all : tie.Need-slice-aggregate-write-all
 slice-aggregate-write-all c = sym (length-take-le _ _ (array-share-prefix-output (c .before)))

@@ -6,9 +6,9 @@ use mathlib.Core.Path.{_≡_, sym, ap}
 use mathlib.Core.List.{_++_}
 use lib.ListN.{length, take, length-append}
 use lib.Seq.{length-take-le}
+use Rattle.text.proofs.PutLaws.{two-puts}
 use Rattle.sheet.specs.Line.{answerText, printedLine}
 use Rattle.sheet.proofs.LineLaws.{name-within, name-room, line-words, line-bad}
-use Rattle.sheet.proofs.SheetLaws.{two-puts}
 use Rattle.sheet.proofs.line.put_line.Statement.{statement}
 use Rattle.sheet.proofs.line.put_line.Tie as tie
 

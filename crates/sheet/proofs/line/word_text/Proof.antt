@@ -1,5 +1,4 @@
 -- `sheet::line::word_text` meets its contract. Assumes nothing.
-use native.Mathlib.Nat.{div-one}
 use borrow.Author.Needs.{needs}
 use Rattle.sheet.specs.Line.{answerText}
 use Rattle.sheet.proofs.line.word_text.Statement.{statement}
@@ -9,4 +8,5 @@ pub word-text-spec : {M : Type 1} → statement M
 unfolding answerText
 word-text-spec =
     tie.close
-    (tie.spec (λ c κs. search needs) (λ c κs. search needs) (λ c κs. search needs) (λ c κs. search needs) (λ c κs. search needs) (λ c κs. search needs) (λ c κs. search needs) (λ c κs. search needs) (λ c. cc (div-one (c .before .before .before .before .before .before .before .before .args .w))))
+    (tie.spec (λ c κs. search needs) (λ c. search needs) (λ c. search needs) (λ c. search needs) (λ c. search needs) (λ c. search needs) (λ c. search needs) (λ c. search needs) (λ c. search needs)
+    (λ c. rw (c .digits .ensures)))

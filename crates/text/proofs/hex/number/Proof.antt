@@ -1,14 +1,14 @@
--- `sheet::hex::number` meets its contract. The loop's invariant: the digits passed wrote acc, so that the whole is what the rest writes after acc.
+-- `text::hex::number` meets its contract. The loop's invariant: the digits passed wrote acc, so that the whole is what the rest writes after acc.
 -- Assumes nothing.
 use Prim.Native.Nat.{ℕ, _+_, _*_, _^_, _≤_, _<_, _-_}
 use native.Mathlib.Omega.{arith}
 use mathlib.Core.Path.{_≡_, refl}
 use borrow.Author.Needs.{needs}
 use lib.ListN.{length, drop}
-use Rattle.sheet.specs.Hex.{hexNumber}
-use Rattle.sheet.proofs.HexLaws.{number-end, number-stop, number-more, grows, fits}
-use Rattle.sheet.proofs.hex.number.Statement.{statement}
-use Rattle.sheet.proofs.hex.number.Tie as tie
+use Rattle.text.specs.Hex.{hexNumber}
+use Rattle.text.proofs.HexLaws.{number-end, number-stop, number-more, grows, fits}
+use Rattle.text.proofs.hex.number.Statement.{statement}
+use Rattle.text.proofs.hex.number.Tie as tie
 
 abbrev Inv-loop : tie.InvT-loop
 Inv-loop s acc₀ i₀ acc i = (i ≤ length s) × (acc < 2 ^ (4 * i)) × (hexNumber 0 s ≡ hexNumber acc (drop i s))

@@ -15,9 +15,9 @@ use lib.Arith.{mod-mul}
 use lib.Dec.{leb, eqb, eqb→eq}
 use Rattle.bits.proofs.AllBelow.{at}
 use lib.Pow.{pow-add, pow-mono}
-use Rattle.sheet.specs.Hex.{hexDigit, hexDigits, digitValue, hexNumber}
-use Rattle.sheet.specs.declared.hex.Parsed.{Parsed}
-use Rattle.sheet.specs.declared.hex.Parsed.the-variants.{Number, Malformed}
+use Rattle.text.specs.Hex.{hexDigit, hexDigits, digitValue, hexNumber}
+use Rattle.text.specs.declared.hex.Parsed.{Parsed}
+use Rattle.text.specs.declared.hex.Parsed.the-variants.{Number, Malformed}
 
 -- ---- the loop's invariant is that the whole spells what the rest spells after acc
 

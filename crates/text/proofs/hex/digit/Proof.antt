@@ -1,8 +1,8 @@
--- `sheet::hex::digit` meets its contract. Assumes nothing.
+-- `text::hex::digit` meets its contract. Assumes nothing.
 use Rattle.bits.proofs.Tests.{tests}
-use Rattle.sheet.specs.Hex.{hexDigit}
-use Rattle.sheet.proofs.hex.digit.Statement.{statement}
-use Rattle.sheet.proofs.hex.digit.Tie as tie
+use Rattle.text.specs.Hex.{hexDigit}
+use Rattle.text.proofs.hex.digit.Statement.{statement}
+use Rattle.text.proofs.hex.digit.Tie as tie
 
 pub digit-spec : {M : Type 1} → statement M
 unfolding hexDigit

@@ -1,12 +1,12 @@
--- `sheet::text::line_length` meets its contract. The loop's invariant: the whole's length is i more than the rest's. Assumes nothing.
+-- `sheet::line_length` meets its contract. The loop's invariant: the whole's length is i more than the rest's. Assumes nothing.
 use Prim.Native.Nat.{_+_, _≤_, _-_}
 use mathlib.Core.Path.{_≡_}
 use borrow.Author.Needs.{needs}
 use lib.ListN.{length, drop}
 use Rattle.sheet.specs.Sheet.{lineLength}
 use Rattle.sheet.proofs.SheetLaws.{length-end, length-stop, length-more}
-use Rattle.sheet.proofs.text.line_length.Statement.{statement}
-use Rattle.sheet.proofs.text.line_length.Tie as tie
+use Rattle.sheet.proofs.line_length.Statement.{statement}
+use Rattle.sheet.proofs.line_length.Tie as tie
 
 abbrev Inv-loop : tie.InvT-loop
 Inv-loop s i₀ i = (i ≤ length s) × (lineLength s ≡ i + lineLength (drop i s))

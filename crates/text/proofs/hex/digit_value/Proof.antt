@@ -1,8 +1,8 @@
--- `sheet::hex::digit_value` meets its contract. Assumes nothing.
+-- `text::hex::digit_value` meets its contract. Assumes nothing.
 use Rattle.bits.proofs.Tests.{tests}
-use Rattle.sheet.specs.Hex.{digitValue}
-use Rattle.sheet.proofs.hex.digit_value.Statement.{statement}
-use Rattle.sheet.proofs.hex.digit_value.Tie as tie
+use Rattle.text.specs.Hex.{digitValue}
+use Rattle.text.proofs.hex.digit_value.Statement.{statement}
+use Rattle.text.proofs.hex.digit_value.Tie as tie
 
 pub digit-value-spec : {M : Type 1} → statement M
 unfolding digitValue

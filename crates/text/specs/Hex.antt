@@ -4,8 +4,8 @@ use Prim.Native.Char.{code}
 use mathlib.Core.Bool.{cond}
 use mathlib.Core.List.{List, [], _∷_}
 use lib.Dec.{ltb, leb}
-use Rattle.sheet.specs.declared.hex.Parsed.{Parsed}
-use Rattle.sheet.specs.declared.hex.Parsed.the-variants.{Number, Malformed}
+use Rattle.text.specs.declared.hex.Parsed.{Parsed}
+use Rattle.text.specs.declared.hex.Parsed.the-variants.{Number, Malformed}
 
 -- the digit of a number below 16
 unfoldable pub hexDigit : ℕ → ℕ

@@ -2,7 +2,7 @@
 ghost use mathlib.Core.Path.{_≡_};
 ghost use Prim.Native.Nat.{_≤_, _<_};
 ghost use lib.ListN.{length};
-ghost use Rattle.sheet.specs.Hex.{hexDigit, digitValue, hexNumber};
+ghost use Rattle.text.specs.Hex.{hexDigit, hexDigits, digitValue, hexNumber};
 
 // What digits spell.
 pub enum Parsed {
@@ -10,7 +10,7 @@ pub enum Parsed {
     Malformed,
 }
 
-pub fn digit(d: u32) -> u8
+fn digit(d: u32) -> u8
     requires { ⌜ d < 16 ⌝ }
     ensures { λ r. ⌜ r ≡ hexDigit d ⌝ }
 {
@@ -18,6 +18,22 @@ pub fn digit(d: u32) -> u8
         return b'0' + d as u8;
     }
     b'a' + (d - 10) as u8
+}
+
+// The eight digits of a word.
+pub fn digits(w: u32) -> [u8; 8]
+    ensures { λ r. ⌜ r ≡ hexDigits 8 w ⌝ }
+{
+    [
+        digit(w / 0x1000_0000 % 16),
+        digit(w / 0x100_0000 % 16),
+        digit(w / 0x10_0000 % 16),
+        digit(w / 0x1_0000 % 16),
+        digit(w / 0x1000 % 16),
+        digit(w / 0x100 % 16),
+        digit(w / 0x10 % 16),
+        digit(w % 16),
+    ]
 }
 
 // The value of a digit, and 16 for a byte that is none.

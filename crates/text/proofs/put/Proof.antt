@@ -1,4 +1,4 @@
--- `sheet::text::put` meets its contract. The loop's invariant: the first i bytes of the text stand in the buffer. Assumes nothing.
+-- `text::put` meets its contract. The loop's invariant: the first i bytes of the text stand in the buffer. Assumes nothing.
 use Prim.Native.Nat.{_+_, _≤_, _<_, _-_}
 use native.Mathlib.Omega.{arith}
 use native.Mathlib.Numerals.{add-one}
@@ -6,9 +6,9 @@ use mathlib.Core.Path.{_≡_, refl, _∙_}
 use borrow.Author.Needs.{needs}
 use lib.ListN.{length, length-set}
 use lib.Seq.{paste, paste-zero, paste-suc}
-use Rattle.sheet.proofs.SheetLaws.{paste-all}
-use Rattle.sheet.proofs.text.put.Statement.{statement}
-use Rattle.sheet.proofs.text.put.Tie as tie
+use Rattle.text.proofs.PutLaws.{paste-all}
+use Rattle.text.proofs.put.Statement.{statement}
+use Rattle.text.proofs.put.Tie as tie
 
 abbrev Inv-loop : tie.InvT-loop
 Inv-loop buffer₀ at text i₀ buffer i = (i ≤ length text) × (length buffer ≡ length buffer₀) × (buffer ≡ paste buffer₀ at text i)

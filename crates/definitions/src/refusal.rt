@@ -70,4 +70,7 @@ impl Refusal {
 
     // The register's index is 4 or above 15.
     pub const INDEX: u32 = 23;
+
+    // The output is shorter than the sheet.
+    pub const ROOM: u32 = 24;
 }

@@ -184,7 +184,7 @@ pub same-bytes : (xs ys : List ℕ) → length xs ≡ length ys → Below 256 xs
 same-bytes xs ys l bx by e =
     ext-getD 0 xs ys l (λ i _. same-digits 8 _ _ (bx i) (by i) (λ k h. sym (bitAt-byte xs i k h) ∙ e (8 * i + k) ∙ bitAt-byte ys i k h))
 
-bit-fullByte : (v : Bool) (k : ℕ) → k < 8 → bit k (fullByte v) ≡ v
+pub bit-fullByte : (v : Bool) (k : ℕ) → k < 8 → bit k (fullByte v) ≡ v
 unfolding fullByte
 bit-fullByte true k h = is-true (bit k 255) (at (λ i. bit i 255) 8 tt k h)
 bit-fullByte false k h = bit-of-zero k

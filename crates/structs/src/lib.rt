@@ -23,7 +23,7 @@ const FIRST_PORT_OF_B: usize = 0x8000;
 // The low MSRs are those below LOW_MSRS, and there are as many high ones, from HIGH_MSRS on. A quarter of the MSR bitmap has a bit for each.
 const LOW_MSRS: usize = 0x2000;
 
-const HIGH_MSRS: usize = 0xC000_0000;
+pub const HIGH_MSRS: usize = 0xC000_0000;
 
 const HIGH_MSRS_END: usize = 0xC000_2000;
 
@@ -37,7 +37,7 @@ fn with_bit(k: u8, v: bool, byte: u8) -> u8
 }
 
 // The byte with all its bits v.
-fn full_byte(v: bool) -> u8
+pub fn full_byte(v: bool) -> u8
     ensures { λ r. ⌜ r ≡ fullByte v ⌝ }
 {
     if v { 255 } else { 0 }

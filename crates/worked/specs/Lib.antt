@@ -1,2 +1,3 @@
--- The cases that document 01 works by hand.
+-- The cases that document 01 works by hand, and the trap sheet of setup's frames.
 pub mod Worked
+pub mod TrapSheet

@@ -1,0 +1,10 @@
+pub mod RunLaws
+pub mod RangeLaws
+pub mod OnesLaws
+pub mod SearchLaws
+pub mod RunSearch
+pub mod FrameLaws
+pub mod LineLaws
+pub mod SheetLaws
+pub mod AnswerLaws
+pub mod OnlyAnswer

@@ -9,9 +9,10 @@ Usage: tools/casesheet_reading.py             reads standard input and prints th
        tools/casesheet_reading.py --check     exit status 1 where one of these files differs from what would be written
 """
 import hashlib
-import os
 import re
 import sys
+
+import kept
 
 CASE = re.compile(rb"([a-z]{1,16})" + rb"\t([0-9a-f]{8})" * 5)
 
@@ -202,23 +203,5 @@ def files():
     yield RUNS + "/stdout", b"".join(name.encode() + b"\n" + sheet(data) for name, data in inputs.items())
 
 
-def main():
-    mode = sys.argv[1:]
-    if mode == ["--make"]:
-        for path, data in files():
-            with open(path, "wb") as out:
-                out.write(data)
-    elif mode == ["--check"]:
-        wrong = [path for path, data in files() if not os.path.isfile(path) or open(path, "rb").read() != data]
-        print("\n".join("differs: " + path for path in wrong) or "all as document 01 says")
-        return 1 if wrong else 0
-    elif mode:
-        print(__doc__)
-        return 2
-    else:
-        sys.stdout.buffer.write(sheet(sys.stdin.buffer.read()))
-    return 0
-
-
 if __name__ == "__main__":
-    sys.exit(main())
+    sys.exit(kept.command(__doc__, sheet, files, "document 01"))

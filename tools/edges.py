@@ -321,8 +321,30 @@ def addresses():
     edge("gla2gva", 0x400, 0x2000, 1, M64, [M64])  # 64-bit mode
 
 
+def sheets():
+    """N2. The lengths of A, B, the MSR frame and the output, with no trap: the sheet's length. Three lines have 123 bytes."""
+    name = "trap_sheet"
+    edge(name, 4096, 4096, 4096, 0, Refused(24))
+    edge(name, 4096, 4096, 4096, 122, Refused(24))
+    edge(name, 4096, 4096, 4096, 123, [123])
+    edge(name, 4096, 4096, 4096, 124, [123])
+    # 2 of each frame, before 24
+    for length in [4095, 4097]:
+        for room in [122, 123]:
+            edge(name, length, 4096, 4096, room, Refused(2))
+            edge(name, 4096, length, 4096, room, Refused(2))
+            edge(name, 4096, 4096, length, room, Refused(2))
+    # a port and its count: a fourth line, also from A to B
+    for port, count in [(0x604, 1), (0x7FFF, 2), (0, 65536)]:
+        edge("trap_sheet, ports", port, count, 163, Refused(24))
+        edge("trap_sheet, ports", port, count, 164, [164])
+    # MSRs whose reads are trapped: neighbours are one line, the last low one and the first high one are two
+    for msr, other, room, answer in [(0x1FFE, 0x1FFF, 163, Refused(24)), (0x1FFE, 0x1FFF, 164, [164]), (0x1FFF, 0xC0000000, 204, Refused(24)), (0x1FFF, 0xC0000000, 205, [205])]:
+        edge("trap_sheet, reads", msr, other, room, answer)
+
+
 PROGRAMS = {
-    "edges": [ports, msrs, registers, fields, controls, lengths, addresses],
+    "edges": [ports, msrs, registers, fields, controls, lengths, addresses, sheets],
     "edges_sessions": [records, queues, entries, apic_values, setups, reports, control_registers, xcr0],
 }
 for part in PROGRAMS[sys.argv[1]]:

@@ -29,15 +29,16 @@ def listed():
 
 
 def named(crate, crates):
-    """The crates that the files of a crate name."""
-    found = set()
+    """The crates that the files of a crate name. A module of the crate may have the name of a crate."""
+    found, modules = set(), set()
     for path in glob.glob("crates/%s/**/*" % crate, recursive=True):
         if path.endswith((".rt", ".antt")):
             text = re.sub(r"(//|--) .*", "", open(path).read())
             found.update(re.findall(r"Rattle·(\w+)", text))
             if path.endswith(".rt"):
                 found.update(re.findall(r"\b(\w+)::", text))
-    return {c for c in found if c in crates or c in KIT} - {crate}
+                modules.update(re.findall(r"^(?:pub )?mod (\w+);", text, re.M))
+    return {c for c in found if c in crates or c in KIT} - {crate} - modules
 
 
 def below(crate, crates, seen):

@@ -1,9 +1,9 @@
 /*
  * A small host, with the processor played by arrays. It does what a hypervisor does around the core: it makes a session, sets it up from the processor's
- * capability words (and shows words that are refused), edits intercepts and queues events; for each exit it enters the guest, carries fields and
- * registers to the processor and back, reports the exit, and does what the core answers. After each call it writes to the processor the fields that the
- * header names and no others; at each entry all 154 are compared, and those in which processor and record differ are counted. Arrays refuse no entry:
- * examples/emulated is a host on processors that do, with all that the header's section "What the host does" says.
+ * capability words (and shows words that are refused), edits intercepts, with the trap sheet before and after, and queues events; for each exit it enters the
+ * guest, carries fields and registers to the processor and back, reports the exit, and does what the core answers. After each call it writes to the processor the
+ * fields that the header names and no others; at each entry all 154 are compared, and those in which processor and record differ are counted. Arrays refuse no
+ * entry: examples/emulated is a host on processors that do, with all that the header's section "What the host does" says.
  */
 #include "x86_vcpu.h"
 
@@ -157,6 +157,27 @@ static uint32_t setup(uint64_t secondary)
         VCPU_SETUP_FIELDS(CARRY)
     }
     return number;
+}
+
+/* ---- What its frames trap ---- */
+
+static void print_sheet(const char *when)
+{
+    static uint8_t sheet[VCPU_SHEET_LARGEST];
+    uint64_t length = 0;
+
+    printf("trap sheet %s: %" PRIu32 "\n", when,
+           vcpu_trap_sheet(io_a, sizeof io_a, io_b, sizeof io_b, msrs, sizeof msrs, sheet, sizeof sheet, &length));
+    fwrite(sheet, 1, (size_t)length, stdout);
+}
+
+/* The frames as the program trapsheet takes them; 0 where they are written. */
+static int write_frames(const char *name)
+{
+    FILE *file = fopen(name, "wb");
+    int written = file && fwrite(io_a, sizeof io_a, 1, file) && fwrite(io_b, sizeof io_b, 1, file) && fwrite(msrs, sizeof msrs, 1, file);
+
+    return !file || fclose(file) || !written;
 }
 
 /* ---- Entries ---- */
@@ -366,9 +387,11 @@ static void prepare(void)
     printf("setup: %" PRIu32 "\n", setup(words[8]));
     printf("CR0 0x%" PRIX64 ", its mask 0x%" PRIX64 ", EPT pointer 0x%" PRIX64 "\n", vmread(VmcsGuestNW_CR0), vmread(VmcsControlNW_CR0_GUEST_HOST_MASK),
            vmread(VmcsControl64_EPTP));
+    print_sheet("after setup");
     /* The ports of a device that this host emulates (0x2F8 to 0x2FF, the second serial port), and reads of IA32_EFER. */
     printf("intercept ports 0x2F8 to 0x2FF: %" PRIu32 "\n", vcpu_set_io_intercept_of_range(io_a, sizeof io_a, io_b, sizeof io_b, 0x2F8, 8, 1));
     printf("intercept reads of MSR 0xC0000080: %" PRIu32 "\n", vcpu_set_read_intercept(msrs, sizeof msrs, 0xC0000080, 1));
+    print_sheet("after these edits");
 }
 
 /* A report of a reason that no processor gives is refused, and the session runs on; the right report follows. */
@@ -391,11 +414,14 @@ static void print_counts(void)
     printf("fields that differed from the record's at an entry: %u\n", differing);
 }
 
-int main(void)
+/* The first argument, if there is one, names the file to which the frames go. */
+int main(int argc, char **argv)
 {
     unsigned i;
 
     prepare();
+    if (argc > 1 && write_frames(argv[1]))
+        return 1;
     /* Vector 32 is held while IF is clear, as it is after setup. */
     printf("interrupt 32: %" PRIu32 "\n", vcpu_inject_interrupt(record, sizeof record, 32));
     enter_and_report(&window);

@@ -82,6 +82,8 @@ extern "C" {
 #define VCPU_REFUSED_COUNT 22
 /* Registers: index 4 (the place of RSP, which is a field) or above 15. */
 #define VCPU_REFUSED_INDEX 23
+/* Trap sheets: the output is shorter than the sheet. */
+#define VCPU_REFUSED_ROOM 24
 
 /* ---- Sizes ---- */
 
@@ -142,7 +144,10 @@ extern "C" {
  *
  * Before the first entry:
  * - The host's CR0 has CD and NW clear. An entry does not change them and an exit stores them as the guest's: VCPU_REFUSED_OWNED_BITS [host-cd].
- * - Ports and MSRs that the frames do not trap are the guest's, the machine's own too: the host traps what the guest is not to reach [main].
+ * - In the frames that it hands to vcpu_setup the host traps the ports and MSRs that the guest is not to reach, the machine's own too [main]. Which of all others
+ *   the guest reaches is said under "Trap sheet".
+ * - A trap sheet has what the frames trap when it is made. The host makes the one that it hands out after its last edit of them: an older one lacks what was
+ *   trapped since [trap-sheet, trap-sheet-early].
  * - After vcpu_setup it writes the fields of VCPU_SETUP_FIELDS; and, since an entry or the guest would meet what the VMCS region held, 0x4006, 0x4008 and 0x4016,
  *   and 0x202C where XSAVES is set [dirty-region, dirty-region-event, dirty-page-fault, dirty-page-fault-words, dirty-xsaves, dirty-xsaves-bitmap].
  * - Where IA32_VMX_EPT_VPID_CAP (0x48C) has bit 21 clear, as on processors before Haswell, it clears bit 6 of the EPT pointer (0x201A) by vcpu_write_field and
@@ -578,6 +583,44 @@ uint32_t vcpu_set_read_intercept(uint8_t *frame, size_t length, uint32_t msr, ui
 uint32_t vcpu_set_write_intercept(uint8_t *frame, size_t length, uint32_t msr, uint8_t intercept);
 uint32_t vcpu_set_msr_intercept_of_range(uint8_t *frame, size_t length, uint32_t msr, uint8_t intercept);
 
+/* ---- Trap sheet ----
+ * What the frames trap when the call is made, as text. The sheet of the frames that vcpu_new and then vcpu_setup leave:
+ *
+ *     port                                   1
+ *     read                                  65
+ *     writ                                  65
+ *     port  00000604  00000604               1
+ *     read  000000e1  000000e1               1
+ *     read  00000800  0000083f              64
+ *     writ  000000e1  000000e1               1
+ *     writ  00000800  0000083f              64
+ *
+ * - It is ASCII, and every line has 40 columns and a line feed. Nothing stands before, between or after the lines.
+ * - The kinds are port, I/O of a port; read, RDMSR of an MSR; writ, WRMSR of one.
+ * - The first three lines are totals, of port, read and writ in this order: the kind (4 columns), 22 blanks, and how many ports or MSRs are trapped, decimal,
+ *   without leading zeros, right in 14 columns. It is 0 for a kind that has no trap and so no other line, and at most 65,536, 16,384 and 16,384.
+ * - Then comes a line for each run of trapped numbers: all of port, then of read, then of writ, and those of a kind ascend. It has the kind, the first and the last
+ *   number of the run in 8 small hexadecimal digits each, and how many numbers the run has, as in a total; two blanks stand before each of the three.
+ * - A run ends where the next number is not trapped or the range ends. Ports are one range, 0 to 0xFFFF, and a run may pass from I/O bitmap A to B. MSRs have two,
+ *   0 to 0x1FFF and then 0xC0000000 to 0xC0001FFF, and no run is in both. So whatever is trapped is on one line, nothing else is on any, and the lines of a kind
+ *   add up to its total.
+ * - The guest reaches without an exit every port that is on no line, and every read and write of an MSR of the two ranges that is on none. That holds while the
+ *   VMCS has the addresses of these frames and the controls use I/O bitmaps and use MSR bitmaps (bits 25 and 28 of 0x4002), which setup sets. I/O of more than one
+ *   port exits where one of them is trapped or it wraps past port 0xFFFF (SDM 3C, 26.1.3). MSRs outside both ranges always exit (25.6.9) and are on no sheet.
+ */
+
+/* The length in bytes of a line with its line feed, and of the longest sheet: three totals, and every second of all ports, reads and writes. */
+#define VCPU_SHEET_LINE 41
+#define VCPU_SHEET_LARGEST 2015355
+
+/*
+ * Writes the sheet of three frames, which are only read, to the start of output, and its length in bytes to *length. The output may be longer and keeps every byte
+ * past the sheet; VCPU_SHEET_LARGEST bytes suffice for any frames.
+ * Refusals: VCPU_REFUSED_BYTES (a frame's length; no length of the output gives it), VCPU_REFUSED_ROOM.
+ */
+uint32_t vcpu_trap_sheet(const uint8_t *a, size_t a_length, const uint8_t *b, size_t b_length, const uint8_t *msr, size_t msr_length,
+                         uint8_t *output, size_t output_length, uint64_t *length);
+
 /* ---- Stack ----
  * The bytes of stack that each call needs at most: those below the caller's stack pointer, the return address and the red zone among them, the caller's
  * arguments not. Measured over accepted and refused calls (tests/c/stack.c) and rounded up to a multiple of 64, with some to spare. The host's memcpy, memmove and
@@ -604,7 +647,8 @@ uint32_t vcpu_set_msr_intercept_of_range(uint8_t *frame, size_t length, uint32_t
     F(vcpu_set_io_intercept_of_range, 128)  \
     F(vcpu_set_read_intercept, 128)         \
     F(vcpu_set_write_intercept, 128)        \
-    F(vcpu_set_msr_intercept_of_range, 128)
+    F(vcpu_set_msr_intercept_of_range, 128) \
+    F(vcpu_trap_sheet, 512)
 
 #ifdef __cplusplus
 }

@@ -1,11 +1,7 @@
 /*
- * What the tests share: numbers that look random, a record's parts, numbers and fields, and which bytes are a record. The file that includes it
- * names itself by TEST.
+ * What the tests of a session share: a record's parts, numbers and fields, and which bytes are a record. The file that includes it names itself by TEST.
  */
-#include <stdio.h>
-#include <stdlib.h>
-#include <string.h>
-
+#include "check.h"
 #include "fields.h"
 
 /* The fields of a record, and the events that may wait in its queue. */
@@ -48,29 +44,6 @@ enum { RECORD(LENGTH) };
 #define R_CODE(place) (R_CODES + 4 * (place))
 #define R_ALLOWED0(pair) (R_PAIRS + 8 * (pair))
 #define R_ALLOWED1(pair) (R_PAIRS + 8 * (pair) + 4)
-
-static uint64_t state = 0x2545F4914F6CDD1Du;
-
-static uint64_t any(void)
-{
-    state ^= state << 13;
-    state ^= state >> 7;
-    state ^= state << 17;
-    return state;
-}
-
-static unsigned below(unsigned n)
-{
-    return (unsigned)((any() >> 20) % n);
-}
-
-static void fail(const char *what)
-{
-    fprintf(stderr, TEST ": failed: %s\n", what);
-    exit(1);
-}
-
-#define CHECK(e) ((e) ? (void)0 : fail(#e))
 
 static uint64_t get(const uint8_t *r, unsigned at, unsigned size)
 {

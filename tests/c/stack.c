@@ -48,6 +48,7 @@ int leaves_main(void);
 int session_main(int argc, char **argv);
 int setup_main(int argc, char **argv);
 int report_main(int argc, char **argv);
+int trap_sheet_main(int argc, char **argv);
 
 /* How far below the caller's stack pointer the calls changed a byte. */
 static unsigned deepest(const uint8_t *stack)
@@ -60,8 +61,8 @@ static unsigned deepest(const uint8_t *stack)
 }
 
 /* The number of calls that each test makes. */
-static char name[] = "stack", few[] = "20000", some[] = "100000", many[] = "240000";
-static char *session[] = {name, many}, *setup[] = {name, few}, *report[] = {name, some};
+static char name[] = "stack", fewest[] = "1000", few[] = "20000", some[] = "100000", many[] = "240000";
+static char *session[] = {name, many}, *setup[] = {name, few}, *report[] = {name, some}, *trap_sheet[] = {name, fewest};
 
 int main(void)
 {
@@ -69,7 +70,7 @@ int main(void)
 
     for (i = 0; i < CALLS; i++)
         memset(calls[i].stack, PAINT, SIZE);
-    if (leaves_main() || session_main(2, session) || setup_main(2, setup) || report_main(2, report))
+    if (leaves_main() || session_main(2, session) || setup_main(2, setup) || report_main(2, report) || trap_sheet_main(2, trap_sheet))
         return 1;
     for (i = 0; i < CALLS; i++) {
         unsigned bytes = deepest(calls[i].stack);

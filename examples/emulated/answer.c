@@ -152,6 +152,13 @@ static void answer_in(uint64_t port, uint64_t width)
     set_reg(RAX, (width == 4 ? 0 : reg(RAX) & ~mask) | ((port == SERIAL ? DEVICE_READS : ~0ull) & mask));
 }
 
+/* What guests send and ask for. One that names its accesses is held to those instead (sheet.c). */
+static void check_unnamed(const char *what, uint64_t is, uint64_t should)
+{
+    if (!memory[ACCESS])
+        check(what, is, should);
+}
+
 /* What the main guest sends: 1, 2 and 4 bytes, to the first three ports. */
 static void check_out(uint64_t port, uint64_t width, uint64_t data)
 {
@@ -169,7 +176,7 @@ static void step(void)
 
 static void answer_rdmsr(uint64_t msr)
 {
-    check("MSR of RDMSR", msr, IA32_EFER);
+    check_unnamed("MSR of RDMSR", msr, IA32_EFER);
     set_reg(RAX, MSR_READS_LOW);
     set_reg(RDX, MSR_READS_HIGH);
     step();
@@ -177,21 +184,21 @@ static void answer_rdmsr(uint64_t msr)
 
 static void answer_wrmsr(uint64_t msr, uint64_t value)
 {
-    check("MSR of WRMSR", msr, 0xE1);
-    check("value of WRMSR", value, 0x1155667788);
+    check_unnamed("MSR of WRMSR", msr, 0xE1);
+    check_unnamed("value of WRMSR", value, 0x1155667788);
     step();
 }
 
 static void answer_apic_read(uint64_t msr)
 {
-    check("APIC register that is read", msr, 0x802);
+    check_unnamed("APIC register that is read", msr, 0x802);
     check("APIC value", vcpu_apic_value(record, sizeof record, APIC_READS), 0);
 }
 
 static void answer_apic_write(uint64_t msr, uint64_t value)
 {
-    check("APIC register that is written", msr, 0x80B);
-    check("value for the APIC", value, 9);
+    check_unnamed("APIC register that is written", msr, 0x80B);
+    check_unnamed("value for the APIC", value, 9);
 }
 
 /* The machine's timer, which the host takes; what it means to the guest is queued. */

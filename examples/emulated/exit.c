@@ -226,6 +226,7 @@ int leave(void)
         return ending("report refused %d", number);
     }
     tell_answer(answer);
+    check_trap(reason);
     carry(VmcsGuestNW_RIP);
     if (reason == EXIT_INTERRUPT_WINDOW)
         carry(VmcsControl32_PRIMARY_PROCBASED_EXEC_CONTROLS);

@@ -47,6 +47,9 @@ enum {
     IA32_VMX_CR4_FIXED1 = 0x489,
     IA32_VMX_PROCBASED_CTLS2 = 0x48B,
     IA32_VMX_EPT_VPID_CAP = 0x48C,
+    LOW_MSRS_LAST = 0x1FFF,
+    HIGH_MSRS_FIRST = 0xC0000000,
+    HIGH_MSRS_LAST = 0xC0001FFF,
     IA32_EFER = 0xC0000080,
     IA32_FS_BASE = 0xC0000100,
     IA32_GS_BASE = 0xC0000101
@@ -151,6 +154,12 @@ uint64_t supported_xcr0(void);
 void make_session(uint64_t guest);
 /* Not the host's: every memory type is write-back. */
 #define GUEST_PAT 0x0606060606060606
+
+/* sheet.c: the trap sheet, and each exit held to it */
+void print_sheet(const char *when);
+uint64_t sheet_total(unsigned kind);
+void check_trap(uint32_t reason);
+void check_accesses(void);
 
 /* enter.S, entry.c, exit.c, answer.c: one round. enter, leave and act answer 0 where the guest is to run on. */
 struct guest_area {

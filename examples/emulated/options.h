@@ -36,7 +36,8 @@
     O(FEWER_XCR0)             /* give setup a supported word of x87 and SSE alone */          \
     O(OFFER_ALL)              /* leave bits in leaf 0xD that the supported word lacks */      \
     O(HOST_SIZE)              /* run CPUID of leaf 0xD with the host's XCR0 */                \
-    O(HOST_OSXSAVE)           /* leave OSXSAVE of leaf 1 as the host's CR4 has it */
+    O(HOST_OSXSAVE)           /* leave OSXSAVE of leaf 1 as the host's CR4 has it */          \
+    O(EARLY_SHEET)            /* print no trap sheet after the host's own edits */
 
 #define OPTION(name) name,
 enum option { OPTIONS(OPTION) };

@@ -152,11 +152,17 @@ static void list_words(void)
 
 /* ---- The session ---- */
 
-/* The ports of a device that this host emulates (those of the second serial port, 0x2F8 to 0x2FF), and reads of IA32_EFER. */
+/*
+ * The ports of a device that this host emulates (those of the second serial port, 0x2F8 to 0x2FF), and reads of IA32_EFER. Besides, to be seen on the sheet,
+ * ports in both frames, which are one run, and reads of the last MSR of the low range and the first of the high one, which are two.
+ */
 static void add_intercepts(void)
 {
     check("an edit of ports", vcpu_set_io_intercept_of_range(io_a, sizeof io_a, io_b, sizeof io_b, SERIAL, 8, 1), 0);
+    check("an edit of ports", vcpu_set_io_intercept_of_range(io_a, sizeof io_a, io_b, sizeof io_b, 0x7FFE, 4, 1), 0);
     check("an edit of MSRs", vcpu_set_read_intercept(msrs, sizeof msrs, IA32_EFER, 1), 0);
+    check("an edit of MSRs", vcpu_set_read_intercept(msrs, sizeof msrs, LOW_MSRS_LAST, 1), 0);
+    check("an edit of MSRs", vcpu_set_read_intercept(msrs, sizeof msrs, HIGH_MSRS_FIRST, 1), 0);
 }
 
 /*
@@ -197,7 +203,10 @@ void make_session(uint64_t guest)
         ending("setup refused %d", number);
         stop();
     }
+    print_sheet("after setup");
     add_intercepts();
+    if (!deviates(EARLY_SHEET))
+        print_sheet("after the host's edits");
     find_fields();
     carry_setup();
     carry_others();

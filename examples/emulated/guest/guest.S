@@ -52,6 +52,7 @@
 #include "modes.S"
 #include "events.S"
 #include "many.S"
+#include "accesses.S"
 
     .balign 8
 gdt:                                    # code and data of 4 GByte, code of 64-bit mode

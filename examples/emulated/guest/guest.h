@@ -23,6 +23,13 @@
 #define LOG 0x6800
 #define FLAG 0x6900
 #define COUNT 0x6A00
+/* How many accesses to ports and MSRs the guest has named, each before it makes it; and these: number (4 bytes), kind, width in bytes (MSRs: 1), 2 bytes. */
+#define ACCESS 0x6B00
+#define ACCESSES 0x6B08
+#define ACCESS_ROOM 255
+#define ACCESS_PORT 0
+#define ACCESS_READ 1
+#define ACCESS_WRITE 2
 #define START 0x8000 /* the guests; first the handler of vector 3 */
 #define MANY 0xA000
 #define MANY_ROOM 0x1000
@@ -81,6 +88,7 @@
 #define DONE_PAE 0x600D0008
 #define DONE_CODE 0x600D0009
 #define DONE_XCR0 0x600D000A
+#define DONE_ACCESSES 0x600D000B
 
 /* The bit of AVX in XCR0, and the word that the guest puts through YMM0. */
 #define XCR0_AVX 4

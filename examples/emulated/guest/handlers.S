@@ -31,13 +31,16 @@ h22:                                    # what the host queues when its timer ha
     popal
     iret
 
-h06:                                    # past UD2
+    .macro past name, number            # past an instruction of two bytes
+\name:
     push    %bp
     mov     %sp, %bp
     addw    $2, 2(%bp)
     pop     %bp
-    note    0x06
+    note    \number
     iret
+    .endm
+    past    h06 0x06                    # UD2
 h0d:
     note    0x0D
     iret

@@ -4,8 +4,7 @@
 usage: oracle/mutants.py [--cases N] [--only TEXT]
 
 The crates are turned to Rust by tools/strip.py. A mutation is a text, found wherever in the library crates it stands, and what takes its place. A mutant
-is run by every program that depends on the changed crate and replays lists of the original's answers or has no input, and by the differential run where
-the exported functions depend on it.
+is run by every program with a kept output that depends on the changed crate, and by the differential run where the exported functions depend on it.
 
 It prints a table in Markdown. Exit status: 0 if every mutant is noticed or its survival is explained in mutations.py, and every
 mutation applies, its text standing in the library crates exactly once; 3 if the original can't be built; else 1. With --only, the mutations whose file or
@@ -64,22 +63,25 @@ def dependants(crates, name):
         found |= more
 
 
-class Replay:
-    """A program of the repository that replays lists, or that has no input. Where it notices a mutant, `said` names the list too."""
+class Program:
+    """A program of the repository on its kept input, beside its files if it reads some. Where it replays lists, `said` names the one that notices a mutant."""
 
     def __init__(self, name, folder):
         self.name = self.said = name
-        lists = folder / "stdin"
-        self.input = lists.read_bytes() if lists.is_file() else b""
+        given = folder / "stdin"
+        self.input = given.read_bytes() if given.is_file() else b""
+        self.files = folder / "data" if (folder / "data").is_dir() else folder
         self.expected = (folder / "stdout").read_bytes()
+        self.lists = LIST_MARK in self.input.split(b"\n")[0]
+        self.own_input = self.files != folder or (self.input != b"" and not self.lists)
 
     def notices(self):
         try:
-            done = run([str(WORK / "target/debug" / self.name)], input=self.input)
+            done = run([str(WORK / "target/debug" / self.name)], input=self.input, cwd=self.files)
         except subprocess.TimeoutExpired:
             self.said = self.name
             return True
-        self.said = f"{self.name}: {self.first_differing_list(done.stdout)}" if self.input else self.name
+        self.said = f"{self.name}: {self.first_differing_list(done.stdout)}" if self.lists else self.name
         return done.returncode != 0 or done.stdout != self.expected
 
     def first_differing_list(self, output):
@@ -93,17 +95,11 @@ class Replay:
         return name
 
 
-def replays(crates):
-    """The programs whose input is lists, and those that have none."""
-    found = {}
-    for name in crates:
-        folder = REPOSITORY / "crates" / name
-        lists = folder / "stdin"
-        if not (folder / "stdout").is_file() or (folder / "data").is_dir():
-            continue
-        if not lists.is_file() or LIST_MARK in lists.read_bytes().split(b"\n")[0]:
-            found[name] = Replay(name, folder)
-    return found
+def programs(crates):
+    """The programs that have a kept output, those that read lists or nothing first."""
+    folders = {name: REPOSITORY / "crates" / name for name in crates}
+    found = [Program(name, folder) for name, folder in folders.items() if (folder / "stdout").is_file()]
+    return {program.name: program for program in sorted(found, key=lambda program: program.own_input)}
 
 
 class Differential:
@@ -133,7 +129,7 @@ def main():
     errors = build()
     if errors:
         raise SystemExit(errors)
-    checks = replays(crates)
+    checks = programs(crates)
     if strip.EXPORTED in crates:
         library = WORK / "target/debug/libx86_vcpu.so"
         checks[strip.EXPORTED] = Differential(build_differential(library), options.cases)

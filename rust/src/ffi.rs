@@ -33,4 +33,15 @@ extern "C" {
     pub fn vcpu_set_read_intercept(frame: *mut u8, length: usize, msr: u32, intercept: u8) -> u32;
     pub fn vcpu_set_write_intercept(frame: *mut u8, length: usize, msr: u32, intercept: u8) -> u32;
     pub fn vcpu_set_msr_intercept_of_range(frame: *mut u8, length: usize, msr: u32, intercept: u8) -> u32;
+    pub fn vcpu_trap_sheet(
+        a: *const u8,
+        a_length: usize,
+        b: *const u8,
+        b_length: usize,
+        msr: *const u8,
+        msr_length: usize,
+        output: *mut u8,
+        output_length: usize,
+        length: *mut u64,
+    ) -> u32;
 }

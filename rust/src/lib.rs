@@ -22,6 +22,10 @@ use refusal::{accepted, outcome};
 
 pub const RECORD_LENGTH: usize = 1485;
 pub const FRAME_LENGTH: usize = 4096;
+/// The length of a line of a trap sheet, with its line feed.
+pub const SHEET_LINE: usize = 41;
+/// The length of the largest trap sheet: every second port, and every second MSR of each range, is a run of its own.
+pub const SHEET_LARGEST: usize = 2_015_355;
 
 /// Where the registers lie in a record.
 const REGISTERS: usize = 10;
@@ -85,6 +89,36 @@ impl Frames {
     /// [`Refusal::Msr`].
     pub fn set_msr_intercept_of_range(&mut self, msr: u32, intercept: bool) -> Result<(), Refusal> {
         outcome(unsafe { ffi::vcpu_set_msr_intercept_of_range(self.msr.0.as_mut_ptr(), FRAME_LENGTH, msr, u8::from(intercept)) })
+    }
+
+    /// Writes the trap sheet, a text that lists all that the frames intercept, at the start of `output`, and answers its length in bytes. Bytes past it are
+    /// kept.
+    ///
+    /// Every line has [`SHEET_LINE`] bytes. The first three count the ports, the MSRs whose reads and those whose writes are intercepted. Then there is a line
+    /// for each run of neighbours, ascending: its first and its last number, and how many they are. A run may go on from I/O bitmap A to B; MSRs from 0 and
+    /// from `0xC000_0000` on are never in one run. The frames that [`Session::setup`] leaves over zeros give:
+    ///
+    /// ```text
+    /// port                                   1
+    /// read                                  65
+    /// writ                                  65
+    /// port  00000604  00000604               1
+    /// read  000000e1  000000e1               1
+    /// read  00000800  0000083f              64
+    /// writ  000000e1  000000e1               1
+    /// writ  00000800  0000083f              64
+    /// ```
+    ///
+    /// # Errors
+    ///
+    /// [`Refusal::Room`]; `output` keeps its bytes. [`SHEET_LARGEST`] bytes are enough for any frames.
+    pub fn trap_sheet(&self, output: &mut [u8]) -> Result<usize, Refusal> {
+        let (a, b, m) = (&self.io_a.0, &self.io_b.0, &self.msr.0);
+        let mut length = 0;
+        outcome(unsafe {
+            ffi::vcpu_trap_sheet(a.as_ptr(), a.len(), b.as_ptr(), b.len(), m.as_ptr(), m.len(), output.as_mut_ptr(), output.len(), &raw mut length)
+        })?;
+        Ok(usize::try_from(length).unwrap_or_else(|_| unknown(length)))
     }
 }
 

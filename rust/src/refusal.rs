@@ -55,11 +55,13 @@ pub enum Refusal {
     Count = 22,
     /// The register's index is 4 (the place of RSP, which is a field) or above 15.
     Index = 23,
+    /// The output is shorter than the trap sheet.
+    Room = 24,
 }
 
 impl Refusal {
     /// All refusals, by number from 1 on.
-    pub const ALL: [Refusal; 23] = [
+    pub const ALL: [Refusal; 24] = [
         Refusal::Phase,
         Refusal::Bytes,
         Refusal::Encoding,
@@ -83,6 +85,7 @@ impl Refusal {
         Refusal::ApicAccess,
         Refusal::Count,
         Refusal::Index,
+        Refusal::Room,
     ];
 
     /// The number that the archive answers.
@@ -116,6 +119,7 @@ impl Refusal {
             Refusal::ApicAccess => "an APIC access",
             Refusal::Count => "the count of entries is at its end",
             Refusal::Index => "the register's index is 4 or above 15",
+            Refusal::Room => "the output is shorter than the trap sheet",
         }
     }
 }

@@ -8,7 +8,7 @@ use x86_vcpu_core::fields::{
 };
 use x86_vcpu_core::{
     blocks, ffi, set_control, Answer, Entry, Event, Field, Frames, HostWords, PageWalk, Phase, Refusal, Report, Session, Setup, VmCpuMode, WalkFlags, FRAME_LENGTH,
-    RECORD_LENGTH,
+    RECORD_LENGTH, SHEET_LARGEST, SHEET_LINE,
 };
 
 const WORDS: [u64; 13] = [
@@ -64,6 +64,26 @@ fn setup_gives_the_worked_values() {
     assert_eq!(frames.io_a.0[0x604 / 8], 1 << (0x604 % 8));
     let ones: u32 = frames.msr.0.iter().map(|byte| byte.count_ones()).sum();
     assert_eq!(ones, 2 * 65);
+}
+
+/// The sheet of the frames that setup leaves over zeros, typed by document 02's words.
+const SETUP_SHEET: &str = "\
+port                                   1
+read                                  65
+writ                                  65
+port  00000604  00000604               1
+read  000000e1  000000e1               1
+read  00000800  0000083f              64
+writ  000000e1  000000e1               1
+writ  00000800  0000083f              64
+";
+
+#[test]
+fn setup_gives_its_trap_sheet() {
+    let (_, frames) = ready();
+    let mut output = [0; 328];
+    assert_eq!(frames.trap_sheet(&mut output), Ok(328));
+    assert_eq!(str::from_utf8(&output), Ok(SETUP_SHEET));
 }
 
 #[test]
@@ -301,6 +321,8 @@ fn lengths_are_those_of_the_header() {
         let header = header_numbers(&format!("VCPU_{part}LENGTH"));
         assert_eq!(header.into_values().map(|number| number as usize).collect::<Vec<usize>>(), [length]);
     }
+    let sheet = header_numbers("VCPU_SHEET_").into_iter().map(|(name, number)| (name, number as usize));
+    assert_eq!(sheet.collect::<Vec<_>>(), [("LARGEST".to_string(), SHEET_LARGEST), ("LINE".to_string(), SHEET_LINE)]);
 }
 
 #[test]
@@ -427,4 +449,20 @@ fn a_wrong_length_is_refused() {
     assert_eq!(number, Refusal::Bytes.number());
     let number = unsafe { ffi::vcpu_set_read_intercept(frame.as_mut_ptr(), FRAME_LENGTH - 1, 0, 1) };
     assert_eq!(number, Refusal::Bytes.number());
+}
+
+/// The wrong length comes before a short output, and neither result is written.
+#[test]
+fn a_trap_sheet_of_a_wrong_length_is_refused() {
+    let frames = Frames::new();
+    let [a, b, m] = [&frames.io_a, &frames.io_b, &frames.msr].map(|frame| frame.0.as_ptr());
+    let (mut output, mut length) = ([b'-'; 3 * SHEET_LINE], 9);
+    for wrong in 0..3 {
+        let mut n = [FRAME_LENGTH; 3];
+        n[wrong] -= 1;
+        for room in [0, output.len()] {
+            let number = unsafe { ffi::vcpu_trap_sheet(a, n[0], b, n[1], m, n[2], output.as_mut_ptr(), room, &raw mut length) };
+            assert_eq!((number, output, length), (Refusal::Bytes.number(), [b'-'; 3 * SHEET_LINE], 9));
+        }
+    }
 }

@@ -27,6 +27,8 @@ functions! {
     "vcpu_set_read_intercept" vcpu_set_read_intercept(*mut u8, usize, u32, u8);
     "vcpu_set_write_intercept" vcpu_set_write_intercept(*mut u8, usize, u32, u8);
     "vcpu_set_msr_intercept_of_range" vcpu_set_msr_intercept_of_range(*mut u8, usize, u32, u8);
+    // I/O A, I/O B, MSR frame, output, length
+    "vcpu_trap_sheet" vcpu_trap_sheet(*const u8, usize, *const u8, usize, *const u8, usize, *mut u8, usize, *mut u64);
     // record, I/O A, I/O B, MSR frame
     "vcpu_new" vcpu_new(*mut u8, usize, *mut u8, usize, *mut u8, usize, *mut u8, usize);
     // record, arguments, I/O A, I/O B, MSR frame

@@ -17,6 +17,7 @@ mod report;
 mod session;
 mod setup;
 mod tally;
+mod trap_sheet;
 mod whole;
 mod xsetbv;
 
@@ -30,7 +31,7 @@ struct Comparison {
     run: fn(&mut Random, u64, &mut Totals),
 }
 
-const COMPARISONS: [Comparison; 12] = [
+const COMPARISONS: [Comparison; 13] = [
     Comparison { names: &["vcpu_set_control"], run: control::run },
     Comparison { names: &["vcpu_set_io_intercept_of_range"], run: intercepts::run_ports },
     Comparison { names: &["vcpu_set_read_intercept"], run: intercepts::run_reads },
@@ -43,6 +44,7 @@ const COMPARISONS: [Comparison; 12] = [
     Comparison { names: &[], run: xsetbv::run },
     Comparison { names: &[], run: whole::run },
     Comparison { names: &[], run: kept::run },
+    Comparison { names: &["vcpu_trap_sheet"], run: trap_sheet::run },
 ];
 
 /// The names that the archive lacks.

@@ -3,8 +3,8 @@
 /// Differences that are printed in full for each line.
 const SHOWN: u64 = 5;
 
-/// One more than the greatest number of document 01.
-const NUMBERS: usize = 24;
+/// One more than the greatest number of a refusal.
+const NUMBERS: usize = 25;
 
 pub struct Tally {
     name: String,

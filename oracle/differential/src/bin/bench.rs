@@ -19,6 +19,9 @@ use std::time::Instant;
 
 const BATCHES: usize = 401;
 
+/// The length of the largest trap sheet.
+const SHEET_LARGEST: usize = 2_015_355;
+
 const HEADING: &str = "\
 One process, the same inputs, the median of 401 batches of each side, the batches taking turns. Nanoseconds a call.
 
@@ -28,7 +31,7 @@ also decodes a block of 244 bytes, setup one of 265. No call keeps anything betw
 The Rust: the original's functions over arrays, called bare (no record, no block, nothing caught), as a release build has them: without overflow checks, all
 crates optimized together. Its state stays in memory. A field is an array access in place of VMREAD or VMWRITE, an MSR a search of a short list in place of
 RDMSR. An exit is its `run` with an empty queue: its assembly saves and loads the registers, and the report is stored in the arrays in place of the guest's run.
-An entry alone is its `inject_pending_events`, without that assembly; it has no phases, no counts, and tests fewer things.
+An entry alone is its `inject_pending_events`, without that assembly; it has no phases, no counts, no trap sheet, and tests fewer things.
 ";
 
 thread_local! {
@@ -122,11 +125,18 @@ fn median(mut times: Vec<f64>) -> f64 {
     times[times.len() / 2]
 }
 
+/// A row with a goal: the greatest figure that meets it, a ratio or a time.
+struct Goal {
+    name: String,
+    figure: f64,
+    most: f64,
+    unit: &'static str,
+}
+
 struct Bench {
     port: Port,
     oracle: Oracle,
-    /// The rows that have a goal: name, ratio, and the greatest ratio that meets it.
-    goals: Vec<(String, f64, f64)>,
+    goals: Vec<Goal>,
 }
 
 impl Bench {
@@ -163,14 +173,22 @@ impl Bench {
         rust: impl FnMut(&mut VmxVcpu, u64) -> u64,
     ) {
         let ratio = self.row(name, calls, port, rust);
-        self.goals.push((name.to_string(), ratio, goal));
+        self.goals.push(Goal { name: name.to_string(), figure: ratio, most: goal, unit: "" });
     }
 
     /// A row of the port alone.
-    fn lone_row(&mut self, name: &str, calls: u64, mut port: impl FnMut(&mut Port, u64) -> u64) {
+    fn lone_row(&mut self, name: &str, calls: u64, mut port: impl FnMut(&mut Port, u64) -> u64) -> f64 {
         let bytes = &mut self.port;
         let times = (0..BATCHES as u64).map(|k| batch(calls, k * calls, |i| port(bytes, i))).collect();
-        println!("| {name} | {:.1} | - | - |", median(times));
+        let time = median(times);
+        println!("| {name} | {time:.1} | - | - |");
+        time
+    }
+
+    /// A row of the port alone with a goal: the greatest time that meets it.
+    fn lone_goal_row(&mut self, goal: f64, name: &str, calls: u64, port: impl FnMut(&mut Port, u64) -> u64) {
+        let time = self.lone_row(name, calls, port);
+        self.goals.push(Goal { name: name.to_string(), figure: time, most: goal, unit: " ns" });
     }
 
     fn lone_rust_row(&mut self, name: &str, calls: u64, mut rust: impl FnMut(&mut VmxVcpu, u64) -> u64) {
@@ -487,6 +505,71 @@ fn readings(bench: &mut Bench) {
     });
 }
 
+/// The sheet of the port's frames: the number and the length.
+fn sheet_of(port: &Port, a_length: usize, output: &mut [u8]) -> (u32, u64) {
+    let (n, mut length) = (FRAME_BYTES, 0);
+    let [a, b, m] = [&port.a, &port.b, &port.msr].map(|frame| frame.as_ptr());
+    let number = port!(vcpu_trap_sheet(a, a_length, b, n, m, n, output.as_mut_ptr(), output.len(), &mut length));
+    (number, length)
+}
+
+/// Frames filled with a byte and then, if so, set up; the lines of their sheet; the goal in nanoseconds, and the calls of a batch.
+struct Sheet {
+    name: &'static str,
+    byte: u8,
+    set_up: bool,
+    lines: u64,
+    goal: f64,
+    calls: u64,
+}
+
+const EMPTY: Sheet = Sheet { name: "empty frames", byte: 0, set_up: false, lines: 3, goal: 15_000.0, calls: 50 };
+const FULL: Sheet = Sheet { name: "full frames", byte: 0xFF, lines: 8, ..EMPTY };
+const SET_UP: Sheet = Sheet { name: "setup's frames", set_up: true, lines: 8, ..EMPTY };
+const WORST: Sheet = Sheet { name: "every second bit", byte: 0x55, lines: 49_155, goal: 5e6, calls: 1, ..EMPTY };
+
+fn fill_frames(port: &mut Port, sheet: &Sheet) {
+    [&mut port.a, &mut port.b, &mut port.msr].into_iter().for_each(|frame| frame.fill(sheet.byte));
+    if sheet.set_up {
+        assert_eq!(port.set_up(), 0);
+    }
+}
+
+/// The rows are the port's alone; a copy of the three frames and a fill of the largest sheet stand beside them.
+fn trap_sheets(bench: &mut Bench) {
+    let mut output = vec![0; SHEET_LARGEST];
+    for sheet in [EMPTY, FULL, SET_UP, WORST] {
+        fill_frames(&mut bench.port, &sheet);
+        assert_eq!(sheet_of(&bench.port, FRAME_BYTES, &mut output), (0, 41 * sheet.lines));
+        bench.lone_goal_row(sheet.goal, &format!("trap sheet: {}", sheet.name), sheet.calls, |port, _| {
+            sheet_of(port, FRAME_BYTES, &mut output).1
+        });
+    }
+    bench.lone_goal_row(5.0, "trap sheet refused by 2", 10_000, |port, _| {
+        sheet_of(port, FRAME_BYTES - 1, &mut output).0 as u64
+    });
+    for sheet in [EMPTY, SET_UP] {
+        fill_frames(&mut bench.port, &sheet);
+        assert_eq!(sheet_of(&bench.port, FRAME_BYTES, &mut []), (24, 0));
+        bench.lone_row(&format!("trap sheet refused by 24: {}", sheet.name), sheet.calls, |port, _| {
+            sheet_of(port, FRAME_BYTES, &mut []).0 as u64
+        });
+    }
+    let mut copy = [0; 3 * FRAME_BYTES];
+    bench.lone_row("memcpy of the three frames", 1000, |port, i| {
+        port.a[0] = i as u8;
+        for (to, from) in copy.chunks_mut(FRAME_BYTES).zip([&port.a, &port.b, &port.msr]) {
+            to.copy_from_slice(black_box(from));
+        }
+        black_box(&mut copy);
+        0
+    });
+    bench.lone_row("memset of the largest sheet", 5, |_, i| {
+        black_box(&mut output).fill(i as u8);
+        0
+    });
+}
+
 /// Calls that a step refuses, on an accepted record.
 fn refusals(bench: &mut Bench) {
     let refused = |name: &str, number: u32| format!("{name} refused by {number}");
@@ -545,9 +628,12 @@ fn main() {
     reports(&mut bench);
     accesses(&mut bench);
     readings(&mut bench);
+    trap_sheets(&mut bench);
     refusals(&mut bench);
     println!("\nGoals:");
-    for (name, ratio, goal) in &bench.goals {
-        println!("- {name}: {ratio:.2}, at most {goal:.1}{}", if ratio <= goal { "" } else { ": missed" });
+    for Goal { name, figure, most, unit } in &bench.goals {
+        let missed = if figure <= most { "" } else { ": missed" };
+        let digits = if unit.is_empty() { 2 } else { 1 };
+        println!("- {name}: {figure:.digits$}{unit}, at most {most:.1}{unit}{missed}");
     }
 }

@@ -17,7 +17,8 @@ use Rattle.bits.specs.Words.{bit, withBit, low32}
 use Rattle.vmcs.specs.Control.{controlWord}
 use Rattle.vmcs.specs.Field.{Field, placeOf, sizeOf, valueOf, put}
 use Rattle.vmcs.specs.declared.Vmcs.{Vmcs}
-use Rattle.vmcs.specs.Fields.{positionOf, fieldAt, fieldOf, widthOf, greatestOf, vmcsWrite}
+use Rattle.vmcs.specs.Fields.{positionOf, fieldAt, fieldOf, vmcsWrite}
+use Rattle.vmcs.specs.Rules.{widthByBits}
 use Rattle.vmcs.specs.Named.{named, encodings}
 use Rattle.vmcs.specs.Names.VmcsControl32 as VmcsControl32
 use Rattle.vmcs.specs.Names.VmcsControlNW as VmcsControlNW
@@ -27,6 +28,7 @@ use Rattle.vmcs.specs.Names.VmcsHostNW as VmcsHostNW
 use Rattle.vmcs.specs.Names.VmcsReadOnly32 as VmcsReadOnly32
 use Rattle.vmcs.specs.declared.Written.{Written as FieldsWritten}
 use Rattle.vmcs.proofs.TableTest.{table}
+use Rattle.vmcs.proofs.FieldLaws.{greatest-by-bits}
 use Rattle.regs.specs.Registers.{withRegOfIndex}
 use Rattle.regs.specs.declared.RegWritten.{RegWritten}
 use Rattle.vcpu_session.specs.Session.{LAST_ENTRY, withVmcs, withQueue}
@@ -667,8 +669,8 @@ module _ (s : Session) (e v : ℕ) (found : positionOf encodings e < 154) (h : S
 abbrev Wide : ℕ → ℕ → Type 0
 Wide e v = ((e / 2 ^ 13 % 4 ≡ 0) × (2 ^ 16 ≤ v)) ⊎ ((e / 2 ^ 13 % 4 ≡ 2) × (2 ^ 32 ≤ v))
 
-wide-of : (e v : ℕ) → v < 2 ^ 64 → ltb (greatestOf e) v ≡ true → Wide e v
-unfolding greatestOf widthOf
+wide-of : (e v : ℕ) → v < 2 ^ 64 → ltb (2 ^ widthByBits e - 1) v ≡ true → Wide e v
+unfolding widthByBits
 wide-of e v small =
     cond-all P (eqb (e / 2 ^ 13 % 4) 0) _ _ (λ t b. inl (eqb-true _ _ t, ltb-true _ v b))
     (λ t. cond-all P (eqb (e / 2 ^ 13 % 4) 2) _ _ (λ u b. inr (eqb-true _ _ u, ltb-true _ v b))
@@ -677,8 +679,8 @@ wide-of e v small =
     P : ℕ → Type 0
     P w = ltb (2 ^ w - 1) v ≡ true → Wide e v
 
-narrow-of : (e v : ℕ) → ltb (greatestOf e) v ≡ false → Wide e v → ⊥
-unfolding greatestOf widthOf
+narrow-of : (e v : ℕ) → ltb (2 ^ widthByBits e - 1) v ≡ false → Wide e v → ⊥
+unfolding widthByBits
 narrow-of e v =
     cond-all P (eqb (e / 2 ^ 13 % 4) 0) _ _
     (λ t b o. elim o [
@@ -705,10 +707,10 @@ write-step t s e v small h =
     let found : positionOf encodings e < 154 = leb-false 154 (positionOf encodings e) y in
     let listed : (List·Memᴰ e encodings → ⊥) → ⊥ = λ n. n (placed-listed encodings e (omega arith)) in
     cond-all P (eqb (e / 2 ^ 10 % 4) 1) _ _ (λ u. refuses t s c 4 refl (inr (listed, inl (eqb-true _ _ u, refl))))
-    (λ u. cond-all P (ltb (greatestOf e) v) _ _
+    (λ u. rw (greatest-by-bits e found) (cond-all P (ltb (2 ^ widthByBits e - 1) v) _ _
     (λ w. refuses t s c 5 refl (inr (listed, inr (eqb-false _ _ u, inl (wide-of e v small w, refl)))))
     (λ w. quiet t s c (withVmcs s (put (s .vmcs) (fieldOf e) v)) rests rests-quiet (λ _ _. refl) refl refl refl
-    (written-words s e v found h (eqb-false _ _ u)) (inr (listed, inr (eqb-false _ _ u, inr (narrow-of e v w, refl))))))))
+    (written-words s e v found h (eqb-false _ _ u)) (inr (listed, inr (eqb-false _ _ u, inr (narrow-of e v w, refl)))))))))
   where
     P : FieldsWritten → Type 0
     P a = Stepped t s (fieldWrite e v) (left (fieldsWritten s a))

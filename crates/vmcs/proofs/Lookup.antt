@@ -12,20 +12,17 @@ use Rattle.bits.proofs.WordLaws.{and-l, and-r}
 use Rattle.vmcs.specs.Named.{named, encodings}
 use Rattle.vmcs.specs.Fields.{positionOf}
 use Rattle.vmcs.specs.Lookup.{startOf, countOf, lookup}
-use Rattle.vmcs.proofs.Scan.{at-position, position-le}
-use Rattle.vmcs.proofs.TableTest.{table}
+use Rattle.vmcs.proofs.Scan.{position-le}
+use Rattle.vmcs.proofs.TableTest.{table, each-listed}
 
 -- ---- at each place: its encoding leads there, and stands nowhere before
-
-abbrev leads : ℕ → Bool
-leads p = eqb (lookup (getD encodings p 0)) p
 
 abbrev stands : ℕ → Bool
 stands p = eqb (positionOf encodings (getD encodings p 0)) p
 
-looked-up : (p : ℕ) → p < 154 → lookup (getD encodings p 0) ≡ p
+leads : T (below (λ p. eqb (lookup (getD encodings p 0)) p) 154)
 unfolding encodings named lookup startOf countOf
-looked-up p h = eqb→eq _ _ (at leads 154 tt p h)
+leads = tt
 
 first : (p : ℕ) → p < 154 → positionOf encodings (getD encodings p 0) ≡ p
 unfolding encodings named
@@ -91,9 +88,7 @@ module _ (e : ℕ) where
   lookup-right = go (ltb (positionOf encodings e) 154) refl outcome
     where
       go : (t : Bool) → ltb (positionOf encodings e) 154 ≡ t → (lookup e ≡ 154) ⊎ Held e (lookup e) → lookup e ≡ positionOf encodings e
-      go true a o =
-          let h : positionOf encodings e < 154 = ltb-true _ _ a in
-          ap lookup (sym (at-position encodings e (rw (table .0) h))) ∙ looked-up (positionOf encodings e) h
+      go true a o = eqb→eq _ _ (each-listed (λ p e. eqb (lookup e) p) leads e (ltb-true _ _ a))
       go false a (inl none) =
           let most : positionOf encodings e ≤ 154 = rw (table .0) at (position-le encodings e) in
           omega (arith, ltb-false (positionOf encodings e) 154 a)

@@ -26,9 +26,14 @@ fieldAt p =
 abbrev pub fieldOf : ℕ → Field
 fieldOf encoding = fieldAt (positionOf encodings encoding)
 
--- bits 13 to 14 of an encoding: 0 is 16 bits, 1 is 64, 2 is 32, 3 is natural
+-- the width in bits of an encoding's field, by four ranges (document 02, N3), one for each section of appendix B: B.1, 16 bits, from 0; B.2, 64, from 0x2000; B.3, 32, from 0x4000;
+-- B.4, natural, 64 here, from 0x6000 to 0x7FFF. A number above 0x7FFF has no width: the 64 given there means nothing
 unfoldable pub widthOf : ℕ → ℕ
-widthOf encoding = cond (eqb (encoding / 2 ^ 13 % 4) 0) 16 (cond (eqb (encoding / 2 ^ 13 % 4) 2) 32 64)
+widthOf encoding =
+    cond (leb encoding 0x1FFF) 16
+    (cond (leb encoding 0x3FFF) 64
+    (cond (leb encoding 0x5FFF) 32
+    64))
 
 unfoldable pub greatestOf : ℕ → ℕ
 greatestOf encoding = 2 ^ widthOf encoding - 1

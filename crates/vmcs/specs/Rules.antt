@@ -1,6 +1,6 @@
 -- The rule of the table of fields: the layout of an encoding (SDM 3D, appendix B) and the order. Assumes nothing.
 use Prim.Native.Nat.{ℕ, _/_, _%_, _^_}
-use mathlib.Core.Bool.{Bool, true, _&&_}
+use mathlib.Core.Bool.{Bool, true, cond, _&&_}
 use mathlib.Core.List.{List, [], _∷_}
 use lib.Dec.{eqb, ltb}
 use Rattle.vmcs.specs.Field.{Field, Word16, Word64, Word32, Natural, widthBits}
@@ -13,6 +13,10 @@ widthNumber (Word16 k) = 0
 widthNumber (Word64 k) = 1
 widthNumber (Word32 k) = 2
 widthNumber (Natural k) = 3
+
+-- the width in bits by the number in bits 13 to 14 of an encoding; the natural width is 64 here
+unfoldable pub widthByBits : ℕ → ℕ
+widthByBits encoding = cond (eqb (encoding / 2 ^ 13 % 4) 0) 16 (cond (eqb (encoding / 2 ^ 13 % 4) 2) 32 64)
 
 -- bit 0 is clear, bits 10 to 11 are the kind, bits 13 to 14 the width, bit 12 and those above 14 are clear
 abbrev pub laidOut : Named → Bool

@@ -57,32 +57,32 @@ pub fn position(encoding: u64) -> usize
     (table::start_of(group) + index) as usize
 }
 
-// The width in bits of the fields of an encoding: bits 13 to 14 (SDM 3D, appendix B). The natural width is 64.
+// The width in bits of an encoding's field, by ranges of encodings, an arm for each section of SDM 3D, appendix B. The natural
+// width is 64. A number above 0x7FFF encodes no field and has no width: the 64 given there means nothing.
 pub fn width_of(encoding: u64) -> u32
     ensures { λ r. ⌜ r ≡ widthOf encoding ⌝ }
 {
-    let width = (encoding >> 13) % 4;
-    if width == 0 {
-        return 16;
+    match encoding {
+        // B.1, 16-bit fields
+        0..=0x1FFF => 16,
+        // B.2, 64-bit fields
+        0x2000..=0x3FFF => 64,
+        // B.3, 32-bit fields
+        0x4000..=0x5FFF => 32,
+        // B.4, natural-width fields, to 0x7FFF
+        0x6000.. => 64,
     }
-    if width == 2 {
-        return 32;
-    }
-    64
 }
 
 // The greatest number that a field of an encoding holds.
 fn greatest_of(encoding: u64) -> u64
     ensures { λ r. ⌜ r ≡ greatestOf encoding ⌝ }
 {
-    let width = width_of(encoding);
-    if width == 16 {
-        return 0xFFFF;
+    match width_of(encoding) {
+        16 => 0xFFFF,
+        32 => 0xFFFF_FFFF,
+        _ => 0xFFFF_FFFF_FFFF_FFFF,
     }
-    if width == 32 {
-        return 0xFFFF_FFFF;
-    }
-    0xFFFF_FFFF_FFFF_FFFF
 }
 
 // Kind 1, bits 10 to 11, is read-only.

@@ -6,4 +6,4 @@ use Rattle.vmcs.proofs.width_of.Tie as tie
 
 pub width-of-spec : {M : Type 1} → statement M
 unfolding widthOf
-width-of-spec = tie.close (tie.spec (λ c. search tests) (λ c. search tests) (λ c. search tests))
+width-of-spec = tie.close (tie.spec (λ c. search tests) (λ c. search tests) (λ c. search tests) (λ c. search tests))

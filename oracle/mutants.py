@@ -1,14 +1,14 @@
 #!/usr/bin/env python3
 """Breaks the port's source in many small ways, builds each mutant unproved, and shows which run notices it.
 
-usage: oracle/mutants.py [--cases N] [--only TEXT]
+usage: oracle/mutants.py [--cases N] [--only TEXT] [--by NAME]
 
 The crates are turned to Rust by tools/strip.py. A mutation is a text, found wherever in the library crates it stands, and what takes its place. A mutant
 is run by every program with a kept output that depends on the changed crate, and by the differential run where the exported functions depend on it.
 
 It prints a table in Markdown. Exit status: 0 if every mutant is noticed or its survival is explained in mutations.py, and every
 mutation applies, its text standing in the library crates exactly once; 3 if the original can't be built; else 1. With --only, the mutations whose file or
-text contains TEXT.
+text contains TEXT. With --by, the run NAME alone: a mutant of a crate that it does not use survives.
 """
 
 import argparse
@@ -120,6 +120,7 @@ def main():
     parser = argparse.ArgumentParser()
     parser.add_argument("--cases", type=int, default=20000)
     parser.add_argument("--only", default="")
+    parser.add_argument("--by", default="")
     options = parser.parse_args()
 
     prepared = subprocess.run([str(HERE / "prepare.sh")])
@@ -133,6 +134,10 @@ def main():
     if strip.EXPORTED in crates:
         library = WORK / "target/debug/libx86_vcpu.so"
         checks[strip.EXPORTED] = Differential(build_differential(library), options.cases)
+    if options.by:
+        checks = {name: check for name, check in checks.items() if check.name == options.by}
+        if not checks:
+            raise SystemExit(f"no run is called {options.by}")
     wrong = [check.name for check in checks.values() if check.notices()]
     if wrong:
         raise SystemExit(f"not a mutant, and yet noticed by {', '.join(wrong)}")

@@ -8,6 +8,7 @@ use lib.ListN.{length, getD, take, drop, length-take, length-drop}
 use lib.Seq.{drop-cons, drop-drop, take-add, take-at, drop-at}
 use lib.Arith.{mod-mul}
 use lib.Dec.{lit<}
+use Rattle.bits.specs.Words.{low32}
 use Rattle.bits.specs.LittleEndian.{numberOf, littleEndian, bytesOf, Below}
 
 -- ---- bounds of a part
@@ -127,3 +128,22 @@ pub number-two : (bs : List ℕ) (at : ℕ) → at + 2 ≤ length bs
     → numberOf (take 2 (drop at bs)) ≡ getD bs at 0 + getD bs (at + 1) 0 * 0x100
 number-two bs at h =
     omega (arith, number-split 1 1 bs at (omega arith), number-one bs at (omega arith), number-one bs (at + 1) (omega arith))
+
+-- the number of k bytes depends on these alone
+pub number-same : (k : ℕ) (bs cs : List ℕ) → length bs ≡ length cs → ((i : ℕ) → i < k → getD bs i 0 ≡ getD cs i 0) → littleEndian k bs ≡ littleEndian k cs
+unfolding numberOf
+number-same zero bs cs l h = refl
+number-same (suc k) [] [] l h = refl
+number-same (suc k) [] (c ∷ cs) l h = absurd (omega arith)
+number-same (suc k) (b ∷ bs) [] l h = absurd (omega arith)
+number-same (suc k) (b ∷ bs) (c ∷ cs) l h =
+    omega (arith, h 0 (omega arith), number-same k bs cs (omega arith) (λ i u. h (suc i) (omega arith)))
+
+-- the low half of a word of eight bytes is the number of its first four
+pub low-half : (bs : List ℕ) → Below 256 bs → low32 (littleEndian 8 bs) ≡ littleEndian 4 bs
+unfolding numberOf
+low-half [] h = refl
+low-half (a ∷ []) h = omega (arith, h 0)
+low-half (a ∷ b ∷ []) h = omega (arith, h 0, h 1)
+low-half (a ∷ b ∷ c ∷ []) h = omega (arith, h 0, h 1, h 2)
+low-half (a ∷ b ∷ c ∷ d ∷ bs) h = omega (arith, h 0, h 1, h 2, h 3)

@@ -2,7 +2,7 @@
 use Prim.Native.Nat.{ℕ, _≤_, _<_}
 use mathlib.Core.Path.{_≡_, refl, sym, _∙_, subst}
 use mathlib.Core.Bool.{Bool, true, false, cond, not, _&&_, _||_, true≢false, false≢true}
-use mathlib.Core.List.{List, [], _∷_}
+use mathlib.Core.List.{List, [], _∷_, _++_}
 use mathlib.Core.Logic.{_⊎_, inl, inr}
 use native.Mathlib.Omega.{arith}
 use lib.Dec.{eqb, leb, ltb}
@@ -134,3 +134,15 @@ numbers-then (r ∷ rs) n m = rung-then (r .test) (r .rule .number) (numberOn rs
 pub ladder-then : (rs : List Rung) → Numbered rs → (rest : List Rule) (m : ℕ) → Refuses rest m → Refuses (rulesOf rs rest) (orElse (numberOn rs 0) m)
 unfolding orElse
 ladder-then rs n rest m w = subst (Refuses (rulesOf rs rest)) (sym (numbers-then rs n m)) (ladder rs rest m w)
+
+-- ---- rules that do not apply
+
+-- none of these rules applies where the number is n
+abbrev pub Passes : List Rule → ℕ → Type 0
+Passes [] n = Unit {0}
+Passes (r ∷ rs) n = (r .applies → n ≡ r .number → ⊥) × Passes rs n
+
+pub past : (earlier later : List Rule) (n : ℕ) → Passes earlier n → Refuses (earlier ++ later) n → Refuses later n
+past [] later n p w = w
+past (r ∷ rs) later n p (inl w) = absurd (p .0 (w .0) (w .1))
+past (r ∷ rs) later n p (inr w) = past rs later n (p .1) (w .1)

@@ -48,6 +48,7 @@ addressesOf b =
 unfoldable pub msrsOf : List ℕ → CapabilityMsrs
 msrsOf b =
     record {
+      basic = littleEndian 8 (drop Layout.VMX_BASIC b);
       pinbased = littleEndian 8 (drop Layout.PINBASED_CTLS b);
       procbased = littleEndian 8 (drop Layout.PROCBASED_CTLS b);
       exit = littleEndian 8 (drop Layout.EXIT_CTLS b);

@@ -2,7 +2,7 @@
 use Prim.Native.Nat.{ℕ}
 
 abbrev pub LENGTH : ℕ
-LENGTH = 265
+LENGTH = 273
 
 -- the host's state, in the order of setup_vmcs_host: numbers of 8 bytes, selectors of 2
 abbrev pub HOST_PAT : ℕ
@@ -79,56 +79,59 @@ IO_BITMAP_B = 134
 abbrev pub MSR_BITMAPS : ℕ
 MSR_BITMAPS = 142
 
--- the capability MSRs, whole: 8 bytes each. IA32_VMX_PINBASED_CTLS is 0x481, and so on to 0x484; 0x486 to 0x489; 0x48B; 0x48D to 0x490
+-- the capability MSRs, whole: 8 bytes each. IA32_VMX_BASIC is 0x480, and so on to 0x484; 0x486 to 0x489; 0x48B; 0x48D to 0x490
+abbrev pub VMX_BASIC : ℕ
+VMX_BASIC = 150
+
 abbrev pub PINBASED_CTLS : ℕ
-PINBASED_CTLS = 150
+PINBASED_CTLS = 158
 
 abbrev pub PROCBASED_CTLS : ℕ
-PROCBASED_CTLS = 158
+PROCBASED_CTLS = 166
 
 abbrev pub EXIT_CTLS : ℕ
-EXIT_CTLS = 166
+EXIT_CTLS = 174
 
 abbrev pub ENTRY_CTLS : ℕ
-ENTRY_CTLS = 174
+ENTRY_CTLS = 182
 
 abbrev pub CR0_FIXED0 : ℕ
-CR0_FIXED0 = 182
+CR0_FIXED0 = 190
 
 abbrev pub CR0_FIXED1 : ℕ
-CR0_FIXED1 = 190
+CR0_FIXED1 = 198
 
 abbrev pub CR4_FIXED0 : ℕ
-CR4_FIXED0 = 198
+CR4_FIXED0 = 206
 
 abbrev pub CR4_FIXED1 : ℕ
-CR4_FIXED1 = 206
+CR4_FIXED1 = 214
 
 abbrev pub PROCBASED_CTLS2 : ℕ
-PROCBASED_CTLS2 = 214
+PROCBASED_CTLS2 = 222
 
 abbrev pub TRUE_PINBASED_CTLS : ℕ
-TRUE_PINBASED_CTLS = 222
+TRUE_PINBASED_CTLS = 230
 
 abbrev pub TRUE_PROCBASED_CTLS : ℕ
-TRUE_PROCBASED_CTLS = 230
+TRUE_PROCBASED_CTLS = 238
 
 abbrev pub TRUE_EXIT_CTLS : ℕ
-TRUE_EXIT_CTLS = 238
+TRUE_EXIT_CTLS = 246
 
 abbrev pub TRUE_ENTRY_CTLS : ℕ
-TRUE_ENTRY_CTLS = 246
+TRUE_ENTRY_CTLS = 254
 
 -- the bits of XCR0 that the host supports: 8 bytes
 abbrev pub XCR0_SUPPORTED : ℕ
-XCR0_SUPPORTED = 254
+XCR0_SUPPORTED = 262
 
 -- yes/no bytes: what CPUID offers the guest
 abbrev pub RDTSCP : ℕ
-RDTSCP = 262
+RDTSCP = 270
 
 abbrev pub INVPCID : ℕ
-INVPCID = 263
+INVPCID = 271
 
 abbrev pub XSAVES : ℕ
-XSAVES = 264
+XSAVES = 272

@@ -14,7 +14,7 @@ use vcpu_setup::HostWords;
 pub struct Layout {}
 
 impl Layout {
-    pub const LENGTH: usize = 265;
+    pub const LENGTH: usize = 273;
 
     // The host's state, in the order of setup_vmcs_host: numbers of 8 bytes, selectors of 2.
     pub const HOST_PAT: usize = 0;
@@ -67,42 +67,44 @@ impl Layout {
 
     pub const MSR_BITMAPS: usize = 142;
 
-    // The capability MSRs, whole: 8 bytes each. IA32_VMX_PINBASED_CTLS is 0x481, and so on to 0x484; 0x486 to 0x489; 0x48B; 0x48D to 0x490.
-    pub const PINBASED_CTLS: usize = 150;
+    // The capability MSRs, whole: 8 bytes each. IA32_VMX_BASIC is 0x480, and so on to 0x484; 0x486 to 0x489; 0x48B; 0x48D to 0x490.
+    pub const VMX_BASIC: usize = 150;
 
-    pub const PROCBASED_CTLS: usize = 158;
+    pub const PINBASED_CTLS: usize = 158;
 
-    pub const EXIT_CTLS: usize = 166;
+    pub const PROCBASED_CTLS: usize = 166;
 
-    pub const ENTRY_CTLS: usize = 174;
+    pub const EXIT_CTLS: usize = 174;
 
-    pub const CR0_FIXED0: usize = 182;
+    pub const ENTRY_CTLS: usize = 182;
 
-    pub const CR0_FIXED1: usize = 190;
+    pub const CR0_FIXED0: usize = 190;
 
-    pub const CR4_FIXED0: usize = 198;
+    pub const CR0_FIXED1: usize = 198;
 
-    pub const CR4_FIXED1: usize = 206;
+    pub const CR4_FIXED0: usize = 206;
 
-    pub const PROCBASED_CTLS2: usize = 214;
+    pub const CR4_FIXED1: usize = 214;
 
-    pub const TRUE_PINBASED_CTLS: usize = 222;
+    pub const PROCBASED_CTLS2: usize = 222;
 
-    pub const TRUE_PROCBASED_CTLS: usize = 230;
+    pub const TRUE_PINBASED_CTLS: usize = 230;
 
-    pub const TRUE_EXIT_CTLS: usize = 238;
+    pub const TRUE_PROCBASED_CTLS: usize = 238;
 
-    pub const TRUE_ENTRY_CTLS: usize = 246;
+    pub const TRUE_EXIT_CTLS: usize = 246;
+
+    pub const TRUE_ENTRY_CTLS: usize = 254;
 
     // The bits of XCR0 that the host supports: 8 bytes.
-    pub const XCR0_SUPPORTED: usize = 254;
+    pub const XCR0_SUPPORTED: usize = 262;
 
     // Yes/no bytes: what CPUID offers the guest.
-    pub const RDTSCP: usize = 262;
+    pub const RDTSCP: usize = 270;
 
-    pub const INVPCID: usize = 263;
+    pub const INVPCID: usize = 271;
 
-    pub const XSAVES: usize = 264;
+    pub const XSAVES: usize = 272;
 }
 
 // ---- Which bytes are a block.
@@ -165,6 +167,7 @@ fn msrs_at(b: &[u8]) -> CapabilityMsrs
     ensures { λ r. ⌜ r ≡ msrsOf (now (b .entry)) ⌝ }
 {
     CapabilityMsrs {
+        basic: words::get8(b, Layout::VMX_BASIC),
         pinbased: words::get8(b, Layout::PINBASED_CTLS),
         procbased: words::get8(b, Layout::PROCBASED_CTLS),
         exit: words::get8(b, Layout::EXIT_CTLS),

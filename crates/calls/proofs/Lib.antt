@@ -19,3 +19,4 @@ pub mod Permit
 pub mod Records
 pub mod DemandThree
 pub mod Contracts
+pub mod CapabilityWords

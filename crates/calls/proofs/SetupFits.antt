@@ -8,15 +8,16 @@ use native.Mathlib.Nat.{pow-suc, one-le-pow, lt-of-le-of-lt}
 use lib.Bits.{bitAnd, bitOr, or-lt, and-le-l, and-le-r}
 use lib.Dec.{lit<}
 use lib.ListN.{drop}
-use Rattle.bits.specs.Words.{bitNot, low32, high32}
+use Rattle.bits.specs.Words.{bit, bitNot, low32, high32}
 use Rattle.bits.specs.LittleEndian.{numberOf, littleEndian, Below}
 use Rattle.bits.proofs.LittleEndianLaws.{below-drop}
+use Rattle.bits.proofs.Tells.{cond-all}
 use Rattle.structs.specs.EPTPointer.{eptPointer}
 use Rattle.vmcs.specs.Control.{controlWord}
 use Rattle.vmcs.specs.Cr.{cr0Free, cr0Off, firstCr0}
 use Rattle.vmcs.specs.Writes.{Write}
 use Rattle.vcpu_setup.specs.Laws.{Typed}
-use Rattle.vcpu_setup.specs.Capability.{capabilitiesOf}
+use Rattle.vcpu_setup.specs.Capability.{used, capabilitiesOf}
 use Rattle.vcpu_setup.specs.Words.{secondarySet, setupWords}
 use Rattle.vcpu_setup.specs.Writes.{hostWrites, crWrites, segmentsWrites, guestWrites, controlWrites, cr0Of, cr4Of, wordsOf, setupWrites}
 use Rattle.vcpu_setup.specs.declared.Features.{Features}
@@ -78,6 +79,11 @@ low-fits a = omega arith
 high-fits : (a : ℕ) → a < 2 ^ 64 → high32 a < 2 ^ 32
 high-fits a h = omega arith
 
+-- a word used fits if both do
+used-fits : (basic plain full : ℕ) → plain < 2 ^ 64 → full < 2 ^ 64 → used basic plain full < 2 ^ 64
+unfolding used
+used-fits basic plain full h k = cond-all (λ (x : ℕ). x < 2 ^ 64) (bit 55 basic) _ _ (λ _. k) (λ _. h)
+
 -- ---- the writes
 
 append-fits : (xs ys : List Write) → AllFit xs → AllFit ys → AllFit (xs ++ ys)
@@ -90,6 +96,10 @@ module _ (block : List ℕ) (bytes : Below 256 block) where
 
   p2 : (o : ℕ) → littleEndian 2 (drop o block) < 2 ^ 16
   p2 o = little-below 2 (drop o block) (below-drop o block bytes)
+
+  -- the word used, of a plain one and a TRUE one at their offsets
+  abbrev usedOf : ℕ → ℕ → ℕ
+  usedOf plain full = used (littleEndian 8 (drop Layout.VMX_BASIC block)) (littleEndian 8 (drop plain block)) (littleEndian 8 (drop full block))
 
   host-fits : AllFit (hostWrites (argumentsOf block .host))
   unfolding argumentsOf hostOf
@@ -121,11 +131,11 @@ module _ (block : List ℕ) (bytes : Below 256 block) where
   control-fits : AllFit (controlWrites (wordsOf (argumentsOf block)) (eptPointer (argumentsOf block .addresses .eptroot)) (argumentsOf block .addresses))
   unfolding argumentsOf addressesOf msrsOf setupWords
   control-fits =
-      word-fits _ _ _ _ _ (low-fits (littleEndian 8 (drop Layout.TRUE_PINBASED_CTLS block))) (lit< tt)
-      ⊗ word-fits _ _ _ _ _ (low-fits (littleEndian 8 (drop Layout.TRUE_PROCBASED_CTLS block))) (lit< tt)
+      word-fits _ _ _ _ _ (low-fits (usedOf Layout.PINBASED_CTLS Layout.TRUE_PINBASED_CTLS)) (lit< tt)
+      ⊗ word-fits _ _ _ _ _ (low-fits (usedOf Layout.PROCBASED_CTLS Layout.TRUE_PROCBASED_CTLS)) (lit< tt)
       ⊗ word-fits _ _ _ _ _ (low-fits (littleEndian 8 (drop Layout.PROCBASED_CTLS2 block))) (secondary-fits (featuresOf block))
-      ⊗ word-fits _ _ _ _ _ (low-fits (littleEndian 8 (drop Layout.TRUE_EXIT_CTLS block))) (lit< tt)
-      ⊗ word-fits _ _ _ _ _ (low-fits (littleEndian 8 (drop Layout.TRUE_ENTRY_CTLS block))) (lit< tt)
+      ⊗ word-fits _ _ _ _ _ (low-fits (usedOf Layout.EXIT_CTLS Layout.TRUE_EXIT_CTLS)) (lit< tt)
+      ⊗ word-fits _ _ _ _ _ (low-fits (usedOf Layout.ENTRY_CTLS Layout.TRUE_ENTRY_CTLS)) (lit< tt)
       ⊗ pointer-fits _ (p8 Layout.EPT_ROOT) ⊗ lit< tt ⊗ lit< tt ⊗ lit< tt ⊗ lit< tt ⊗ lit< tt ⊗ p8 Layout.IO_BITMAP_A
       ⊗ p8 Layout.IO_BITMAP_B ⊗ p8 Layout.MSR_BITMAPS ⊗ tt
 
@@ -149,10 +159,10 @@ module _ (block : List ℕ) (bytes : Below 256 block) where
         pairs = record {
           sized = refl;
           each = (
-            pair Layout.TRUE_PINBASED_CTLS,
+            either Layout.PINBASED_CTLS Layout.TRUE_PINBASED_CTLS,
             (
-              pair Layout.TRUE_PROCBASED_CTLS,
-              (pair Layout.PROCBASED_CTLS2, (pair Layout.TRUE_EXIT_CTLS, (pair Layout.TRUE_ENTRY_CTLS, tt))),
+              either Layout.PROCBASED_CTLS Layout.TRUE_PROCBASED_CTLS,
+              (pair _ (p8 Layout.PROCBASED_CTLS2), (either Layout.EXIT_CTLS Layout.TRUE_EXIT_CTLS, (either Layout.ENTRY_CTLS Layout.TRUE_ENTRY_CTLS, tt))),
             ),
           );
         };
@@ -160,8 +170,11 @@ module _ (block : List ℕ) (bytes : Below 256 block) where
         cr4 = (p8 Layout.CR4_FIXED0, p8 Layout.CR4_FIXED1);
       }
     where
-      pair : (o : ℕ) → (low32 (littleEndian 8 (drop o block)) < 2 ^ 32) × (high32 (littleEndian 8 (drop o block)) < 2 ^ 32)
-      pair o = (low-fits _, high-fits _ (p8 o))
+      pair : (x : ℕ) → x < 2 ^ 64 → (low32 x < 2 ^ 32) × (high32 x < 2 ^ 32)
+      pair x h = (low-fits x, high-fits x h)
+
+      either : (plain full : ℕ) → (low32 (usedOf plain full) < 2 ^ 32) × (high32 (usedOf plain full) < 2 ^ 32)
+      either plain full = pair (usedOf plain full) (used-fits _ _ _ (p8 plain) (p8 full))
 
   pub supported-fits : littleEndian 8 (drop Layout.XCR0_SUPPORTED block) < 2 ^ 64
   supported-fits = p8 Layout.XCR0_SUPPORTED

@@ -19,7 +19,7 @@ use Rattle.vcpu_session.specs.Session.{Lawful}
 use Rattle.vcpu_session.proofs.LawfulLaws.{of-lawful}
 use Rattle.vcpu_session.specs.declared.Capabilities.{Capabilities}
 use Rattle.vcpu_session.specs.declared.Session.{Session}
-use Rattle.vcpu_setup.specs.Capability.{capabilitiesOf}
+use Rattle.vcpu_setup.specs.Capability.{used, capabilitiesOf}
 use Rattle.vcpu_setup.specs.Words.{secondarySet, bitsRefusal, wordsRefusal}
 use Rattle.vcpu_setup.specs.Setup.{consistent, capabilityRefusal, setupRefusal}
 use Rattle.vcpu_setup.specs.declared.Features.{Features}
@@ -175,5 +175,5 @@ setup-refuses s c f l =
 
 -- the limits that the core takes from the block's MSRs are the reference's
 pub same-limits : (block : List ℕ) → limitsIn (capabilitiesOf (msrsOf block)) ≡ limitsOf block
-unfolding msrsOf
+unfolding msrsOf used
 same-limits block = refl

@@ -31,7 +31,7 @@ use Rattle.vmcs.proofs.TableTest.{table}
 use Rattle.vmcs.proofs.FieldLaws.{greatest-by-bits}
 use Rattle.regs.specs.Registers.{withRegOfIndex}
 use Rattle.regs.specs.declared.RegWritten.{RegWritten}
-use Rattle.vcpu_session.specs.Session.{LAST_ENTRY, withVmcs, withQueue}
+use Rattle.vcpu_session.specs.Session.{LAST_ENTRY, Lawful, withVmcs, withQueue}
 use Rattle.vcpu_session.specs.declared.Xcr0.{Xcr0}
 use Rattle.vcpu_session.specs.declared.Session.{Session}
 use Rattle.vcpu_session.proofs.LawfulLaws.{of-lawful}
@@ -50,7 +50,7 @@ use Rattle.vcpu_setup.specs.Setup.{setupRefusal, setupOf}
 use Rattle.vcpu_setup.specs.Writes.{setupWrites}
 use Rattle.vcpu_setup.specs.declared.Arguments.{Arguments}
 use Rattle.vmcs.specs.Writes.{sameField, Sized}
-use Rattle.vcpu_setup.specs.Capability.{capabilitiesOf}
+use Rattle.vcpu_setup.specs.Capability.{used, capabilitiesOf}
 use Rattle.vcpu_setup.specs.Laws.{Typed, SetUp}
 use Rattle.vcpu_setup.specs.Words.{setupWords}
 use Rattle.vcpu_setup.proofs.SetupLaws.{set-up, setup-number, refused-keeps}
@@ -187,8 +187,16 @@ block-features : (block : List ℕ) → argumentsOf block .features ≡ features
 unfolding argumentsOf
 block-features block = refl
 
+-- the numbers of setup after 2, by the block alone
+pub setup-ruled : (s : Session) (block : List ℕ) → Lawful s
+    → Refuses (by 1 (s .progress .phase ≢ 0) ∷ setupRules (limitsOf block) (featuresOf block)) (setupOf s (argumentsOf block) .refusal)
+setup-ruled s block h =
+    rw (setup-number s (argumentsOf block), block-msrs block, block-features block)
+    (subst (λ (l : Limits). Refuses (by 1 (s .progress .phase ≢ 0) ∷ setupRules l (featuresOf block)) (setupRefusal s (capabilitiesOf (msrsOf block)) (featuresOf block)))
+    (same-limits block) (setup-refuses s (capabilitiesOf (msrsOf block)) (featuresOf block) h))
+
 setup-words : (s r : Session) (block : List ℕ) → SetUp s (argumentsOf block) r → wordsOf r ≡ atSetup (wordsOf s) block
-unfolding setupWrites setupWords controlWord argumentsOf msrsOf
+unfolding setupWrites setupWords controlWord argumentsOf msrsOf used
 setup-words s r block u =
     λ i. record {
       phase = u .phase i;
@@ -228,13 +236,7 @@ module _ (t : Tally Event) (s : Session) (block a b msr : List ℕ) (fixed : Typ
   given = argumentsOf block
 
   setup-numbers : Buffers block a b msr → Refuses (ownRules (viewOf t s) call) (setupOf s given .refusal)
-  setup-numbers l =
-      inr (
-        λ n. n l,
-        rw (setup-number s given, block-msrs block, block-features block)
-            (subst (λ (l : Limits). Refuses (by 1 (s .progress .phase ≢ 0) ∷ setupRules l (featuresOf block)) (setupRefusal s (capabilitiesOf (msrsOf block)) (featuresOf block)))
-            (same-limits block) (setup-refuses s (capabilitiesOf (msrsOf block)) (featuresOf block) (h .lawful))),
-      )
+  setup-numbers l = inr (λ n. n l, setup-ruled s block (h .lawful))
 
   setup-accepted : setupOf s given .refusal ≡ 0 → Refuses (ownRules (viewOf t s) call) 0 → Stepped t s call (left (answered 0 (setupOf s given .session)))
   setup-accepted e w =

@@ -4,3 +4,4 @@ pub mod Reference
 pub mod Calls
 pub mod DemandThree
 pub mod Contracts
+pub mod CapabilityWords

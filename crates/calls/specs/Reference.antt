@@ -104,7 +104,7 @@ moveBy (apicValue value) answer w = rests
 moveBy (fieldWrite encoding value) answer w = rests
 moveBy (registerWrite index value) answer w = rests
 
--- ---- what the processor permits (SDM 3D, A.3 to A.5, A.7 and A.8)
+-- ---- what the processor permits (SDM 3D, A.1 to A.5, A.7 and A.8)
 
 -- the bits that must be 1 and those that may be: allowed-0 and allowed-1 of a control, fixed-0 and fixed-1 of CR0 and CR4
 pub record Bounds : Type 0 where
@@ -128,15 +128,23 @@ pub record Limits : Type 0 where
 abbrev pub msrAt : ℕ → List ℕ → ℕ
 msrAt offset block = littleEndian 8 (drop offset block)
 
--- by the MSRs that setup is given: the IA32_VMX_TRUE_.._CTLS, and IA32_VMX_PROCBASED_CTLS2 for the secondary controls
+-- bit 55 of IA32_VMX_BASIC: the IA32_VMX_TRUE_.._CTLS are there (SDM 3D, A.1)
+abbrev pub hasTrueWords : List ℕ → Bool
+hasTrueWords block = bit 55 (msrAt Layout.VMX_BASIC block)
+
+-- the MSR that decides for a control: its IA32_VMX_TRUE_.._CTLS supersedes its IA32_VMX_.._CTLS where it is there (document 02, N4; SDM 3D, A.2)
+abbrev pub usedAt : (plain superseding : ℕ) → List ℕ → ℕ
+usedAt plain superseding block = cond (hasTrueWords block) (msrAt superseding block) (msrAt plain block)
+
+-- by the MSRs that setup is given; the secondary controls have IA32_VMX_PROCBASED_CTLS2 alone
 abbrev pub limitsOf : List ℕ → Limits
 limitsOf block =
     record {
-      pin = halvesOf (msrAt Layout.TRUE_PINBASED_CTLS block);
-      primary = halvesOf (msrAt Layout.TRUE_PROCBASED_CTLS block);
+      pin = halvesOf (usedAt Layout.PINBASED_CTLS Layout.TRUE_PINBASED_CTLS block);
+      primary = halvesOf (usedAt Layout.PROCBASED_CTLS Layout.TRUE_PROCBASED_CTLS block);
       secondary = halvesOf (msrAt Layout.PROCBASED_CTLS2 block);
-      exit = halvesOf (msrAt Layout.TRUE_EXIT_CTLS block);
-      entry = halvesOf (msrAt Layout.TRUE_ENTRY_CTLS block);
+      exit = halvesOf (usedAt Layout.EXIT_CTLS Layout.TRUE_EXIT_CTLS block);
+      entry = halvesOf (usedAt Layout.ENTRY_CTLS Layout.TRUE_ENTRY_CTLS block);
       cr0 = record { must = msrAt Layout.CR0_FIXED0 block; may = msrAt Layout.CR0_FIXED1 block };
       cr4 = record { must = msrAt Layout.CR4_FIXED0 block; may = msrAt Layout.CR4_FIXED1 block };
     }

@@ -1,3 +1,4 @@
 pub mod SetupLaws
 pub mod WordsLaws
+pub mod UsedLaws
 pub mod AddedLaws

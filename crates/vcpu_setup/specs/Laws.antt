@@ -41,7 +41,7 @@ pub record Typed (m : CapabilityMsrs) : Type 0 where
   pub cr0fixed1 : m .cr0fixed1 < 2 ^ 64
   pub cr4fixed1 : m .cr4fixed1 < 2 ^ 64
 
--- r is what setup leaves of s. The words are judged by the capability MSRs given; PE and PG of CR0 are free
+-- r is what setup leaves of s. The words are judged by the pairs used, of the capability MSRs given; PE and PG of CR0 are free
 pub record SetUp (s : Session) (a : Arguments) (r : Session) : Type 0 where
   pub phase : r .progress .phase ≡ Phase.READY
   pub words : EachPermitted (pairsOf (a .msrs)) (controlWordsOf (r .vmcs))

@@ -4,5 +4,6 @@ pub mod Words
 pub mod Writes
 pub mod Setup
 pub mod Laws
+pub mod Used
 pub mod Added
 pub mod Bitmaps

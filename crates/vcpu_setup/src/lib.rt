@@ -8,7 +8,7 @@ ghost use Prim.Native.Nat.{_<_};
 ghost use Rattle.bits.specs.Refuses.{orElse};
 ghost use Rattle.vmcs.specs.Field.{Word16, Word32, Natural};
 ghost use Rattle.vmcs.specs.Writes.{applied};
-ghost use Rattle.vcpu_setup.specs.Capability.{halves, fixedWords, pairsOf, oldsOf, capabilitiesOf};
+ghost use Rattle.vcpu_setup.specs.Capability.{halves, used, fixedWords, pairsOf, oldsOf, capabilitiesOf};
 ghost use Rattle.vcpu_setup.specs.Words.{secondarySet, setupWord, setupWords, bitsRefusal, wordsRefusal};
 ghost use Rattle.vcpu_setup.specs.Writes.{hostSet, crSet, segmentWrites, segmentsSet, guestSet, controlSet, vmcsSet};
 ghost use Rattle.vcpu_setup.specs.Setup.{pairConsistent, fixedConsistent, consistent, capabilityRefusal, setupRefusal, readied, setupOf};
@@ -28,6 +28,7 @@ use vmcs::flags::ExitControls;
 use vmcs::flags::PinbasedControls;
 use vmcs::flags::PrimaryControls;
 use vmcs::flags::SecondaryControls;
+use vmcs::flags::VmxBasic;
 use vmcs::flags::XCr0Flags;
 use vmcs::names::VmcsControl32;
 use vmcs::names::VmcsControl64;
@@ -41,8 +42,9 @@ use vmcs::names::VmcsHost32;
 use vmcs::names::VmcsHost64;
 use vmcs::names::VmcsHostNW;
 
-// The capability MSRs, whole (SDM 3D, appendix A), by number: 0x481 to 0x484, 0x486 to 0x489, 0x48B, 0x48D to 0x490.
+// The capability MSRs, whole (SDM 3D, appendix A), by number: 0x480 to 0x484, 0x486 to 0x489, 0x48B, 0x48D to 0x490.
 pub struct CapabilityMsrs {
+    pub basic: u64,
     pub pinbased: u64,
     pub procbased: u64,
     pub exit: u64,
@@ -118,19 +120,31 @@ fn halves_of(msr: u64) -> Pair
     }
 }
 
-// The pairs used: the TRUE words, and 0x48B for the secondary word.
+// The word used, of a plain one and the TRUE one that supersedes it where the processor has it. Where it has none there is no MSR to read it from, so
+// what stands in its place does not count.
+fn word_used(basic: u64, plain: u64, superseding: u64) -> u64
+    ensures { λ r. ⌜ r ≡ used basic plain superseding ⌝ }
+{
+    if (basic >> VmxBasic::VMX_FLEX_CONTROLS) % 2 == 1 {
+        superseding
+    } else {
+        plain
+    }
+}
+
+// The pairs used. The secondary word has no TRUE one.
 fn pairs_of(m: CapabilityMsrs) -> [Pair; 5]
     ensures { λ r. ⌜ r ≡ pairsOf m ⌝ }
 {
-    let pin = halves_of(m.truepinbased);
-    let primary = halves_of(m.trueprocbased);
+    let pin = halves_of(word_used(m.basic, m.pinbased, m.truepinbased));
+    let primary = halves_of(word_used(m.basic, m.procbased, m.trueprocbased));
     let secondary = halves_of(m.procbased2);
-    let exit = halves_of(m.trueexit);
-    let entry = halves_of(m.trueentry);
+    let exit = halves_of(word_used(m.basic, m.exit, m.trueexit));
+    let entry = halves_of(word_used(m.basic, m.entry, m.trueentry));
     [pin, primary, secondary, exit, entry]
 }
 
-// The old words: the low halves of the plain capability MSRs.
+// The old words: the low halves of the plain words, whichever are used.
 fn olds_of(m: CapabilityMsrs) -> [u32; 5]
     ensures { λ r. ⌜ r ≡ oldsOf m ⌝ }
 {

@@ -4,6 +4,7 @@ pub mod Cr4Flags
 pub mod EferFlags
 pub mod XCr0Flags
 pub mod RFlags
+pub mod VmxBasic
 pub mod PinbasedControls
 pub mod PrimaryControls
 pub mod SecondaryControls

@@ -1,5 +1,6 @@
-// The bits of control registers, of RFLAGS, of control words and of access rights that the port names, as in the Rust and the manual: each name is the
-// place of its bit, as in the definitions (specs/Flags). `word >> PLACE` has that bit lowest, and `1 << PLACE` is the word with that bit alone.
+// The bits of control registers, of RFLAGS, of IA32_VMX_BASIC, of control words and of access rights that the port names, as in the Rust and the
+// manual: each name is the place of its bit, as in the definitions (specs/Flags). `word >> PLACE` has that bit lowest, and `1 << PLACE` is the word with
+// that bit alone.
 pub struct Cr0Flags {}
 
 impl Cr0Flags {
@@ -81,6 +82,13 @@ pub struct RFlags {}
 
 impl RFlags {
     pub const INTERRUPT_FLAG: u64 = 9;
+}
+
+pub struct VmxBasic {}
+
+impl VmxBasic {
+    // Controls that default to 1 may be cleared to 0: the TRUE capability words are there.
+    pub const VMX_FLEX_CONTROLS: u64 = 55;
 }
 
 pub struct PinbasedControls {}

@@ -1,8 +1,9 @@
 #!/usr/bin/env python3
-"""What the programs `edges` and `edges_sessions` must print: usage tools/edges.py PROGRAM > crates/PROGRAM/stdout.
+"""What the programs `edges`, `edges_sessions` and `edges_setup` must print: usage tools/edges.py PROGRAM > crates/PROGRAM/stdout.
 
 Each line is a call of an exported function, its arguments, and the answer that documents 01 and 02 give: the edges of "Worked by hand", and each number of "The operations
-and their numbers" at its boundary, the last call that is accepted and the first that is refused; and the edges of the requests. The answers are written out here, call by call; nothing of the port is read.
+and their numbers" at its boundary, the last call that is accepted and the first that is refused; and the edges of the requests. The answers are written out here, call by call, but for the words of
+N4: there the number is, and a model of setup's rule gives the same number and the words. Nothing of the port is read.
 """
 import sys
 
@@ -187,13 +188,31 @@ def apic_values():
     edge("apic_value", 4, value, Refused(1))
 
 
-# Offsets of capability words in setup's block, and of its yes/no bytes.
-CR0_FIXED1, CR4_FIXED1, SECONDARY, PIN, PRIMARY, EXIT, ENTRY, FLAGS = 190, 206, 214, 222, 230, 238, 246, (262, 263, 264)
+# The capability MSRs by number, with the usual word of each. They stand in setup's block from byte 150 on, 8 bytes each; its yes/no bytes are the last three.
+USUAL = {
+    0x480: 0x00DA0400_00000004,
+    0x481: 0x0000007F_00000016,
+    0x482: 0xFFF9FFFE_0401E172,
+    0x483: 0x01FFFFFF_00036DFF,
+    0x484: 0x0000F3FF_000011FF,
+    0x486: 0x80000021,
+    0x487: 0xFFFFFFFF,
+    0x488: 0x2000,
+    0x489: 0x3FFFFF,
+    0x48B: 0x0010108A_00000000,
+    0x48D: 0x0000007F_00000016,
+    0x48E: 0xFFF9FFFE_04006172,
+    0x48F: 0x01FFFFFF_00036DFB,
+    0x490: 0x0000F3FF_000011FB,
+}
+OFFSET = {msr: 150 + 8 * place for place, msr in enumerate(USUAL)}
+CR0_FIXED1, CR4_FIXED1, SECONDARY, PIN, PRIMARY, EXIT, ENTRY = (OFFSET[msr] for msr in (0x487, 0x489, 0x48B, 0x48D, 0x48E, 0x48F, 0x490))
+FLAGS = (270, 271, 272)
 READY = [1]
 
 
 def setups():
-    """A phase, and two words of the block by their offsets. Allowed-1 is the high half of a pair."""
+    """A phase, and two words of the block by their offsets, of a processor with TRUE words. Allowed-1 is the high half of a pair."""
     # pin sets 0x9
     words = [(PIN, 0x0000001F_00000016, READY), (PIN, 0x0000001F_00000036, Refused(6)), (PIN, 0x0000001E_00000016, Refused(8))]
     # primary sets 0x92000000 and clears 0x198000
@@ -218,6 +237,109 @@ def setups():
     for offset in FLAGS:
         edge("setup, yes/no byte", offset, 1, READY)
         edge("setup, yes/no byte", offset, 2, Refused(2))
+
+
+# The five words in the order of setup's refusals: the plain MSR, the TRUE one (0x48B stands for both), what setup sets without a yes/no byte, what it clears.
+WORDS = [
+    (0x481, 0x48D, 0x9, 0),
+    (0x482, 0x48E, 0x92000000, 0x198000),
+    (0x48B, 0x48B, 0x82, 0),
+    (0x483, 0x48F, 0x3C8200, 0),
+    (0x484, 0x490, 0xC000, 0),
+]
+
+
+def low(word):
+    return word % 2**32
+
+
+def high(word):
+    return word >> 32
+
+
+def set_up(phase, msrs):
+    """The five capability words used and the five control words, or the refusal."""
+    used = [msrs[superseding if msrs[0x480] >> 55 & 1 else plain] for plain, superseding, _, _ in WORDS]
+    if phase != 0:
+        return Refused(1)
+    if any(low(word) & ~high(word) for word in used) or msrs[0x486] & ~msrs[0x487] or msrs[0x488] & ~msrs[0x489]:
+        return Refused(6)
+    controls = []
+    for word, (plain, _, sets, clears) in zip(used, WORDS):
+        if sets & ~high(word):
+            return Refused(8)
+        if clears & low(word):
+            return Refused(9)
+        controls.append(low(word) | sets | low(msrs[plain]) & ~low(word) & high(word) & ~sets & ~clears)
+    return used + controls
+
+
+def words_used(number, basic, *changes, phase=0):
+    """A line: the phase, IA32_VMX_BASIC, and two changed words of the block by their offsets; a single change is named twice, none names IA32_VMX_BASIC."""
+    changes = changes or ((0x480, basic),)
+    (first, value), (second, other) = (changes * 2)[:2]
+    answer = set_up(phase, {**USUAL, 0x480: basic, **dict(changes)})
+    if number != (answer if isinstance(answer, Refused) else 0):
+        sys.exit("edges.py: %d by the request, %s by the model" % (number, answer))
+    edge("setup, words", phase, basic, OFFSET[first], value, OFFSET[second], other, answer)
+
+
+# IA32_VMX_BASIC with bit 55, and without; a plain primary word that demands none of the bits that setup clears.
+TRUE, PLAIN = 0x00DA0400_00000004, 0x005A0400_00000004
+OPEN = (0x482, 0xFFF9FFFE_04006172)
+
+
+def pairs():
+    """N4. After an accepted setup: the MSRs whose halves are kept as the pairs of pin, primary, secondary, exit and entry, and the five control words."""
+    words_used(0, TRUE)
+    words_used(9, PLAIN)
+    words_used(0, PLAIN, OPEN, (0x48E, 0))
+    # bit 55 alone counts
+    words_used(0, 2**55)
+    words_used(0, M64)
+    for basic in [0, 2**54, 2**56, 2**54 + 2**56, M64 - 2**55]:
+        words_used(9, basic)
+        words_used(0, basic, OPEN, (0x48E, 0))
+    # a word that contradicts itself is 6 if it is used; a plain one beside TRUE words gives its low half as the old word
+    for msr in [0x48D, 0x48E, 0x48B, 0x48F, 0x490]:
+        words_used(6, TRUE, (msr, 1))
+    for old in [1, 0xFFFFFFFF]:
+        for msr in [0x481, 0x482, 0x483, 0x484]:
+            words_used(0, TRUE, (msr, old))
+    words_used(0, TRUE, (0x481, 0xFFFFFFFF_00000000))
+    for msr in [0x481, 0x482, 0x48B, 0x483, 0x484]:
+        words_used(6, PLAIN, (msr, 1))
+    words_used(9, PLAIN, (0x48D, 1))
+    for msr in [0x48D, 0x48E, 0x48F, 0x490]:
+        words_used(0, PLAIN, OPEN, (msr, 1))
+    # each plain word is kept
+    words_used(0, PLAIN, OPEN, (0x481, 0x00000079_00000070))
+    words_used(0, PLAIN, OPEN, (0x483, 0x007FFFFF_00036DFF))
+    words_used(0, PLAIN, OPEN, (0x484, 0x0000D1FF_000011FF))
+    demanded()
+    orders()
+
+
+def demanded():
+    """Each bit that setup clears."""
+    for bit in [15, 16, 19, 20]:
+        words_used(9, PLAIN, (0x482, OPEN[1] + 2**bit))
+    for bit in [16, 19, 20]:
+        words_used(9, TRUE, (0x48E, OPEN[1] + 2**bit))
+    words_used(0, PLAIN, OPEN, (0x48E, OPEN[1] + 0x198000))
+
+
+def orders():
+    """Without TRUE words: 8 of each word, and what comes before what."""
+    words_used(8, PLAIN, (0x481, 0x0000007E_00000016))  # pin's 8 before primary's 9
+    words_used(8, PLAIN, (0x482, 0x7FF9FFFE_0401E172))  # within a word, too
+    words_used(9, PLAIN, (0x48B, 0))  # before secondary's 8
+    words_used(8, PLAIN, OPEN, (0x48B, 0))
+    words_used(8, PLAIN, OPEN, (0x483, 0x01FFFDFF_00036DFF))
+    words_used(8, PLAIN, OPEN, (0x484, 0x0000B3FF_000011FF))
+    words_used(6, PLAIN, (0x481, 0x0000007E_00000016), (0x484, 1))  # of any word, before 8
+    words_used(6, PLAIN, (0x481, 0x0000007E_00000016), (0x489, 0))
+    words_used(1, PLAIN, (0x481, 1), phase=1)  # before 6
 
 
 WAITING, ENDED = [3], [4]
@@ -345,7 +467,8 @@ def sheets():
 
 PROGRAMS = {
     "edges": [ports, msrs, registers, fields, controls, lengths, addresses, sheets],
-    "edges_sessions": [records, queues, entries, apic_values, setups, reports, control_registers, xcr0],
+    "edges_sessions": [records, queues, entries, apic_values, reports, control_registers],
+    "edges_setup": [setups, pairs, xcr0],
 }
 for part in PROGRAMS[sys.argv[1]]:
     part()

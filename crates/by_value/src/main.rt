@@ -18,8 +18,12 @@ const ANY: u64 = 0xFFFF_FFFF_0000_0000;
 // Bits 1, 2 and 4 are always 1, and bits 0 to 6 may be.
 const PIN: u64 = 0x7F_0000_0016;
 
+// Bit 55, by which the TRUE words are used.
+const VMX_BASIC: u64 = 0x00DA_0400_0000_0004;
+
 fn block() -> [u8; setup::Layout::LENGTH] {
     let mut b = [0u8; setup::Layout::LENGTH];
+    words::put8(&mut b, setup::Layout::VMX_BASIC, VMX_BASIC);
     words::put8(&mut b, setup::Layout::TRUE_PINBASED_CTLS, PIN);
     words::put8(&mut b, setup::Layout::TRUE_PROCBASED_CTLS, ANY);
     words::put8(&mut b, setup::Layout::PROCBASED_CTLS2, ANY);

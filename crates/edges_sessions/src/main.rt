@@ -1,11 +1,8 @@
-// Prints the edges of documents 01 and 02 of the calls on a session, as the exported functions answer them: records, events, entries, setup, reports and XCR0. The lines are as in the program edges, and
+// Prints the edges of documents 01 and 02 of the calls on a session, as the exported functions answer them: records, events, entries and reports. The lines are as in the program edges, and
 // tools/edges.py says what must be printed.
 mod reports;
 mod sessions;
-mod setups;
-mod xcr0;
 
-use blocks::setup;
 use record::Record;
 use record::words;
 
@@ -67,41 +64,6 @@ fn in_phase(phase: u8) -> [u8; Record::LENGTH] {
     bytes
 }
 
-// A block that setup accepts. The capability words of the controls have allowed-0 in the low half.
-fn usual() -> [u8; setup::Layout::LENGTH] {
-    let mut block = [0u8; setup::Layout::LENGTH];
-    words::put8(
-        &mut block,
-        setup::Layout::TRUE_PINBASED_CTLS,
-        0x0000_007F_0000_0016,
-    );
-    words::put8(
-        &mut block,
-        setup::Layout::TRUE_PROCBASED_CTLS,
-        0xFFF9_FFFE_0400_6172,
-    );
-    words::put8(
-        &mut block,
-        setup::Layout::PROCBASED_CTLS2,
-        0x0010_108A_0000_0000,
-    );
-    words::put8(
-        &mut block,
-        setup::Layout::TRUE_EXIT_CTLS,
-        0x01FF_FFFF_0003_6DFB,
-    );
-    words::put8(
-        &mut block,
-        setup::Layout::TRUE_ENTRY_CTLS,
-        0x0000_F3FF_0000_11FB,
-    );
-    words::put8(&mut block, setup::Layout::CR0_FIXED0, 0x8000_0021);
-    words::put8(&mut block, setup::Layout::CR0_FIXED1, 0xFFFF_FFFF);
-    words::put8(&mut block, setup::Layout::CR4_FIXED0, 0x2000);
-    words::put8(&mut block, setup::Layout::CR4_FIXED1, 0x3F_FFFF);
-    block
-}
-
 // Writes a field by its encoding: the refusal.
 fn write(bytes: &mut [u8; Record::LENGTH], encoding: u64, value: u64) -> u32 {
     x86_vcpu::session::vcpu_write_field(bytes, encoding, value)
@@ -112,8 +74,6 @@ fn main() {
     sessions::queues();
     sessions::entries();
     sessions::apic_values();
-    setups::setups();
     reports::reports();
     reports::control_registers();
-    xcr0::xcr0();
 }

@@ -91,9 +91,9 @@ fn read(bytes: &[u8; Record::LENGTH], encoding: u64) -> u64 {
 
 // ---- Setup.
 
-// Changes one number: place 42 is the byte that fills the frames, and a case's unused places are 0.
+// Changes one number: place 43 is the byte that fills the frames, and a case's unused places are 0.
 fn change_argument(numbers: &mut [u64; 46], place: u64, value: u64) {
-    if place < 43 {
+    if place < 44 {
         let i = place as usize;
         numbers[i] = value;
     }

@@ -17,8 +17,8 @@ fn byte(x: u64) -> u8 {
     (x % 0x100) as u8
 }
 
-// Where the numbers of the block start, and where it ends. They stand at places 1 to 41 of a case's numbers.
-const OFFSETS: [usize; 42] = [
+// Where the numbers of the block start, and where it ends. They stand at places 1 to 42 of a case's numbers.
+const OFFSETS: [usize; 43] = [
     Layout::HOST_PAT,
     Layout::HOST_EFER,
     Layout::HOST_CR0,
@@ -43,6 +43,7 @@ const OFFSETS: [usize; 42] = [
     Layout::IO_BITMAP_A,
     Layout::IO_BITMAP_B,
     Layout::MSR_BITMAPS,
+    Layout::VMX_BASIC,
     Layout::PINBASED_CTLS,
     Layout::PROCBASED_CTLS,
     Layout::EXIT_CTLS,
@@ -70,9 +71,9 @@ fn sum_of_digests(a: &[u8; FRAME_SIZE], b: &[u8; FRAME_SIZE], msr: &[u8; FRAME_S
     first + second + third
 }
 
-// Sets a new session up, with the frames full of the byte at place 42, and prints the answer.
+// Sets a new session up, with the frames full of the byte at place 43, and prints the answer.
 pub fn answer(n: [u64; 46]) {
-    let fill = byte(n[42]);
+    let fill = byte(n[43]);
     let mut bytes = crate::new_record();
     let mut a = [fill; FRAME_SIZE];
     let mut b = [fill; FRAME_SIZE];

@@ -1,30 +1,24 @@
-// Setup.
+// Setup of a processor with TRUE words.
 use blocks::setup::Layout;
+use record::Record;
 use record::words;
-use structs::FRAME_SIZE;
 
-// Stores a word of the block.
-fn put(block: &mut [u8; Layout::LENGTH], at: usize, value: u64) {
-    if at < Layout::LENGTH - 7 {
-        words::put8(block, at, value);
-    }
+fn phase_of(bytes: &[u8; Record::LENGTH]) -> u64 {
+    words::get1(bytes, Record::PHASE) as u64
 }
 
 // Sets a session up in a phase, and prints its phase.
 fn print_setup(block: &[u8; Layout::LENGTH], phase: u8) {
     let mut bytes = crate::in_phase(phase);
-    let mut a = [0u8; FRAME_SIZE];
-    let mut b = [0u8; FRAME_SIZE];
-    let mut msr = [0u8; FRAME_SIZE];
-    let refusal = x86_vcpu::setup::vcpu_setup(&mut bytes, block, &mut a, &mut b, &mut msr);
-    replay::print_answer(refusal, &[crate::phase_of(&bytes)]);
+    let refusal = crate::set_up(&mut bytes, block);
+    replay::print_answer(refusal, &[phase_of(&bytes)]);
 }
 
 // Two words of the block changed, by their offsets.
 fn setup(phase: u8, first: usize, value: u64, second: usize, other: u64) {
     let mut block = crate::usual();
-    put(&mut block, first, value);
-    put(&mut block, second, other);
+    crate::put(&mut block, first, value);
+    crate::put(&mut block, second, other);
     replay::print_call(
         b"setup",
         &[phase as u64, first as u64, value, second as u64, other],

@@ -3,7 +3,6 @@ use blocks::report::Layout;
 use blocks::setup;
 use record::Record;
 use record::words;
-use structs::FRAME_SIZE;
 
 fn xcr0_of(bytes: &[u8; Record::LENGTH]) -> u64 {
     let mut xcr0: u64 = 0;
@@ -20,11 +19,8 @@ fn rip_of(bytes: &[u8; Record::LENGTH]) -> u64 {
 // Setup with these supported bits.
 fn set_up(bytes: &mut [u8; Record::LENGTH], supported: u64) {
     let mut block = crate::usual();
-    words::put8(&mut block, setup::Layout::XCR0_SUPPORTED, supported);
-    let mut a = [0u8; FRAME_SIZE];
-    let mut b = [0u8; FRAME_SIZE];
-    let mut msr = [0u8; FRAME_SIZE];
-    x86_vcpu::setup::vcpu_setup(bytes, &block, &mut a, &mut b, &mut msr);
+    crate::put(&mut block, setup::Layout::XCR0_SUPPORTED, supported);
+    crate::set_up(bytes, &block);
 }
 
 // The reading, of a record in a phase that holds this value.

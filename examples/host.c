@@ -1,14 +1,15 @@
 /*
  * A small host, with the processor played by arrays. It does what a hypervisor does around the core: it makes a session, sets it up from the processor's
- * capability words (and shows words that are refused), edits intercepts, with the trap sheet before and after, and queues events; for each exit it enters the
- * guest, carries fields and registers to the processor and back, reports the exit, and does what the core answers. After each call it writes to the processor the
- * fields that the header names and no others; at each entry all 154 are compared, and those in which processor and record differ are counted. Arrays refuse no
- * entry: examples/emulated is a host on processors that do, with all that the header's section "What the host does" says.
+ * capability words (and shows words that are refused, those of an older board among them), edits intercepts, with the trap sheet before and after, and queues
+ * events; for each exit it enters the guest, carries fields and registers to the processor and back, reports the exit, and does what the core answers. After each
+ * call it writes to the processor the fields that the header names and no others; at each entry all 154 are compared, and those in which processor and record
+ * differ are counted. Arrays refuse no entry: examples/emulated is a host on processors that do, with all that the header's section "What the host does" says.
  */
 #include "x86_vcpu.h"
 
 #include <inttypes.h>
 #include <stdio.h>
+#include <stdlib.h>
 #include <string.h>
 
 /* The fields by the Rust's names: those that setup writes, host RSP, those of an event, and those of an exit. */
@@ -32,9 +33,27 @@ enum { RAX, RCX, RDX };
 /* Bits of XCR0: the host uses x87 and SSE, and the processor has AVX besides. */
 enum { HOST_XCR0 = 3, SUPPORTED_XCR0 = 7 };
 
-/* ---- The processor: the fields of its VMCS by encoding, the registers that the guest runs with, XCR0, and its guest ---- */
+/* ---- The processor: its capability MSRs, the fields of its VMCS by encoding, the registers that the guest runs with, XCR0, and its guest ---- */
 
-static uint64_t fields[0x8000], guest[16], xcr0;
+/* The capability MSRs 0x480 to 0x484, 0x486 to 0x489, 0x48B, 0x48D to 0x490, by their place in the block of setup. */
+enum { BASIC, SECONDARY = 9, TRUE_PIN, TRUE_ENTRY = 13, WORDS };
+
+static const uint64_t usual_words[WORDS] = {
+    0x00DA040000000004, 0x0000007F00000016, 0xFFF9FFFE0401E172u, 0x01FFFFFF00036DFF, 0x0003FFFF000011FF, 0x80000021, 0xFFFFFFFF, 0x2000, 0x3767FF,
+    0x55CFEFFF00000000, 0x0000007F00000016, 0xFFF9FFFE04006172u, 0x01FFFFFF00036DFB, 0x0003FFFF000011FB,
+};
+
+static uint64_t words[WORDS], fields[0x8000], guest[16], xcr0;
+
+/* The TRUE words are there where bit 55 of IA32_VMX_BASIC is set. To read an MSR that is not there is a fault, at which this host stops. */
+static uint64_t rdmsr(unsigned place)
+{
+    if (place >= TRUE_PIN && !(words[BASIC] >> 55 & 1)) {
+        printf("RDMSR: vector 13\n");
+        exit(1);
+    }
+    return words[place];
+}
 
 static uint64_t vmread(uint64_t encoding)
 {
@@ -132,20 +151,24 @@ static void count_differing(void)
 
 /* ---- Setup ---- */
 
-/* The capability MSRs 0x481 to 0x484, 0x486 to 0x489, 0x48B, 0x48D to 0x490. */
-static const uint64_t words[13] = {
-    0x0000007F00000016, 0xFFF9FFFE0401E172u, 0x01FFFFFF00036DFF, 0x0003FFFF000011FF, 0x80000021, 0xFFFFFFFF, 0x2000, 0x3767FF,
-    0x55CFEFFF00000000, 0x0000007F00000016, 0xFFF9FFFE04006172u, 0x01FFFFFF00036DFB, 0x0003FFFF000011FB,
-};
+/* IA32_VMX_BASIC says whether the TRUE words may be read; where not, 0 is given for each. */
+static void put_words(void)
+{
+    unsigned i, last = rdmsr(BASIC) >> 55 & 1 ? TRUE_ENTRY : SECONDARY;
 
-static uint32_t setup(uint64_t secondary)
+    for (i = BASIC; i <= last; i++)
+        put(arguments, VCPU_SETUP_MSRS + 8 * i, 8, rdmsr(i));
+}
+
+/* On a processor with the usual words but for this one. */
+static uint32_t setup_on(unsigned place, uint64_t word)
 {
     uint32_t number;
-    unsigned i;
 
+    memcpy(words, usual_words, sizeof words);
+    words[place] = word;
     memset(arguments, 0, sizeof arguments);
-    for (i = 0; i < 13; i++)
-        put(arguments, VCPU_SETUP_MSRS + 8 * i, 8, i == 8 ? secondary : words[i]);
+    put_words();
     put(arguments, VCPU_SETUP_HOST_RIP, 8, 0xFFFF800000001000u);
     put(arguments, VCPU_SETUP_ENTRY, 8, 0x8000);
     put(arguments, VCPU_SETUP_EPT_ROOT, 8, 0x1FFF);
@@ -383,8 +406,10 @@ static const struct exit exits[] = {
 static void prepare(void)
 {
     printf("new: %" PRIu32 "\n", vcpu_new(record, sizeof record, io_a, sizeof io_a, io_b, sizeof io_b, msrs, sizeof msrs));
-    printf("setup without EPT: refused %" PRIu32 "\n", setup(0x55CFEFFD00000000));
-    printf("setup: %" PRIu32 "\n", setup(words[8]));
+    printf("setup without EPT: refused %" PRIu32 "\n", setup_on(SECONDARY, 0x55CFEFFD00000000));
+    /* Its plain primary word, 0x482, demands CR3-load and CR3-store exiting, which setup clears. */
+    printf("setup on an older board, without TRUE words: refused %" PRIu32 "\n", setup_on(BASIC, 0x005A040000000004));
+    printf("setup: %" PRIu32 "\n", setup_on(BASIC, usual_words[BASIC]));
     printf("CR0 0x%" PRIX64 ", its mask 0x%" PRIX64 ", EPT pointer 0x%" PRIX64 "\n", vmread(VmcsGuestNW_CR0), vmread(VmcsControlNW_CR0_GUEST_HOST_MASK),
            vmread(VmcsControl64_EPTP));
     print_sheet("after setup");

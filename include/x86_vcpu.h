@@ -40,7 +40,7 @@ extern "C" {
 #define VCPU_REFUSED_ENCODING 3
 #define VCPU_REFUSED_READ_ONLY 4
 #define VCPU_REFUSED_WIDTH 5
-/* Control word: allowed-0 has a bit that allowed-1 lacks. Setup: so has any of the five pairs, or fixed-0 of CR0 or CR4 beside fixed-1. */
+/* Control word: allowed-0 has a bit that allowed-1 lacks. Setup: so has any of the five pairs used, or fixed-0 of CR0 or CR4 beside fixed-1. */
 #define VCPU_REFUSED_PAIR 6
 /* Control word: a bit is to be both set and cleared. */
 #define VCPU_REFUSED_SET_AND_CLEAR 7
@@ -120,7 +120,7 @@ extern "C" {
 #define VCPU_OFFSET_VECTORS 1069
 #define VCPU_OFFSET_CODED 1133
 #define VCPU_OFFSET_CODES 1141
-/* Kept from setup: five pairs allowed-0 (4), allowed-1 (4), for pin, primary, secondary, exit, entry; CR0 and CR4 fixed-0 (8), fixed-1 (8). */
+/* Kept from setup: the five pairs used, allowed-0 (4), allowed-1 (4), for pin, primary, secondary, exit, entry; CR0 and CR4 fixed-0 (8), fixed-1 (8). */
 #define VCPU_OFFSET_PAIRS 1397
 #define VCPU_OFFSET_CR0 1437
 #define VCPU_OFFSET_CR4 1453
@@ -144,6 +144,9 @@ extern "C" {
  *
  * Before the first entry:
  * - The host's CR0 has CD and NW clear. An entry does not change them and an exit stores them as the guest's: VCPU_REFUSED_OWNED_BITS [host-cd].
+ * - Of the capability MSRs the host reads IA32_VMX_BASIC (0x480) first, and 0x48D to 0x490 only where its bit 55 is set. Where it is clear these four are not there
+ *   and RDMSR of one faults (vector 13): the host gives 0 for each, and vcpu_setup answers by a number [older-board, older-board-read]. Every emulated model has
+ *   the four; these probes play a board that lacks them. The same of 0x48B, by bit 63 of 0x482 (no probe).
  * - In the frames that it hands to vcpu_setup the host traps the ports and MSRs that the guest is not to reach, the machine's own too [main]. Which of all others
  *   the guest reaches is said under "Trap sheet".
  * - A trap sheet has what the frames trap when it is made. The host makes the one that it hands out after its last edit of them: an older one lacks what was
@@ -236,7 +239,7 @@ uint32_t vcpu_new(uint8_t *record, size_t length, uint8_t *a, size_t a_length, u
  */
 
 /* The length in bytes of the block. */
-#define VCPU_SETUP_LENGTH 265
+#define VCPU_SETUP_LENGTH 273
 
 /* The host's state, which an exit restores: PAT, EFER, CR0, CR3, CR4 (8 bytes each). */
 #define VCPU_SETUP_HOST_PAT 0
@@ -268,24 +271,29 @@ uint32_t vcpu_new(uint8_t *record, size_t length, uint8_t *a, size_t a_length, u
 #define VCPU_SETUP_IO_BITMAP_B 134
 #define VCPU_SETUP_MSR_BITMAPS 142
 /*
- * The capability MSRs (SDM 3D, appendix A) as RDMSR gives them, 13 words of 8 bytes by number: 0x481 to 0x484 (pin, primary, exit, entry),
- * 0x486 to 0x489 (CR0 fixed-0 and fixed-1, CR4 fixed-0 and fixed-1), 0x48B (secondary), 0x48D to 0x490 (TRUE pin, primary, exit, entry).
+ * The capability MSRs (SDM 3D, appendix A) as RDMSR gives them, 14 words of 8 bytes by number: 0x480 (IA32_VMX_BASIC, of which bit 55 alone is looked at), 0x481 to
+ * 0x484 (the plain words: pin, primary, exit, entry), 0x486 to 0x489 (CR0 fixed-0 and fixed-1, CR4 fixed-0 and fixed-1), 0x48B (secondary), 0x48D to 0x490 (the TRUE
+ * words: pin, primary, exit, entry). Where bit 55 of 0x480 is clear the last four are not looked at: a host gives 0 and does not read the MSRs.
  */
 #define VCPU_SETUP_MSRS 150
 /* The supported word (8): the bits that the guest's XCR0 may have, CPUID leaf 0xD, subleaf 0, EDX:EAX, or less. */
-#define VCPU_SETUP_XCR0_SUPPORTED 254
+#define VCPU_SETUP_XCR0_SUPPORTED 262
 /* Yes/no bytes: whether CPUID offers the guest RDTSCP, INVPCID and XSAVES. */
-#define VCPU_SETUP_RDTSCP 262
-#define VCPU_SETUP_INVPCID 263
-#define VCPU_SETUP_XSAVES 264
+#define VCPU_SETUP_RDTSCP 270
+#define VCPU_SETUP_INVPCID 271
+#define VCPU_SETUP_XSAVES 272
 
 /*
- * Sets a fresh session up: the fields of host, guest and controls are written, the pairs of the TRUE words and the fixed bits are kept, and the
- * session is ready. To what the frames hold it adds the intercepts of port 0x604 and of reads and writes of MSRs 0xE1 and 0x800 to 0x83F.
+ * Sets a fresh session up: the fields of host, guest and controls are written, the five pairs used and the fixed bits are kept, and the session is ready. To what the
+ * frames hold it adds the intercepts of port 0x604 and of reads and writes of MSRs 0xE1 and 0x800 to 0x83F.
+ * The pairs used of pin, primary, exit and entry are those of the TRUE words where bit 55 of 0x480 is set, and of the plain words where it is clear; the secondary
+ * pair is 0x48B's. Bits that a pair leaves open and setup neither sets nor clears are, in both cases, those of the low half of the plain word (of 0x48B). A plain
+ * primary word as the manual has it demands bits 15 and 16, which setup clears: a processor that has it and no TRUE words gets VCPU_REFUSED_CLEAR, if no earlier
+ * number applies.
  * The supported word is kept and not tested: any is accepted, and where it lacks bit 0 no value of XSETBV passes. XCR0 is stored as 1, whatever the word and the
  * host's XCR0 are.
- * Refusals: VCPU_REFUSED_BYTES (record, block, a frame's length), VCPU_REFUSED_PHASE (not fresh), VCPU_REFUSED_PAIR (any of the five pairs, CR0 or
- * CR4: a bit must be 1 and may not be); then by word, pin, primary, secondary, exit, entry: VCPU_REFUSED_SET, VCPU_REFUSED_CLEAR.
+ * Refusals: VCPU_REFUSED_BYTES (record, block, a frame's length), VCPU_REFUSED_PHASE (not fresh), VCPU_REFUSED_PAIR (any of the five pairs used, CR0
+ * or CR4: a bit must be 1 and may not be); then by word, pin, primary, secondary, exit, entry: VCPU_REFUSED_SET, VCPU_REFUSED_CLEAR.
  */
 uint32_t vcpu_setup(uint8_t *record, size_t length, const uint8_t *block, size_t block_length, uint8_t *a, size_t a_length, uint8_t *b,
                     size_t b_length, uint8_t *msr, size_t msr_length);

@@ -464,22 +464,30 @@ static void go(void)
     CHECK(vcpu_entry(r, N, 0, &resumed, &event) == 0);
 }
 
-/* A session that runs, set up with this supported word and from capability words whose entry controls may not have bit 9. */
-static void running(uint64_t supported)
+/* Capability words whose TRUE entry controls may not have bit 9. */
+enum { MSR_BASIC = 0, MSR_PRIMARY = 2, MSR_ENTRY = 4, MSR_TRUE_ENTRY = 13, MSR_COUNT };
+static const uint64_t msrs[MSR_COUNT] = {
+    0xDA040000000004, 0x7F00000016, 0xFFF9FFFE0401E172u, 0x1FFFFFF00036DFF, 0x3FFFF000011FF, 0x80000021, 0xFFFFFFFF, 0x2000, 0x3767FF,
+    0x55CFEFFF00000000, 0x7F00000016, 0xFFF9FFFE04006172u, 0x1FFFFFF00036DFB, 0x3FDFF000011FB,
+};
+
+/* A session that runs, set up from these capability words and with this supported word. */
+static void running_on(const uint64_t *words, uint64_t supported)
 {
-    static const uint64_t msrs[13] = {
-        0x7F00000016, 0xFFF9FFFE0401E172u, 0x1FFFFFF00036DFF, 0x3FFFF000011FF, 0x80000021, 0xFFFFFFFF, 0x2000, 0x3767FF,
-        0x55CFEFFF00000000, 0x7F00000016, 0xFFF9FFFE04006172u, 0x1FFFFFF00036DFB, 0x3FDFF000011FB,
-    };
     static uint8_t frames[3][VCPU_FRAME_LENGTH], arguments[VCPU_SETUP_LENGTH];
     unsigned i;
 
     CHECK(vcpu_new(r, N, frames[0], VCPU_FRAME_LENGTH, frames[1], VCPU_FRAME_LENGTH, frames[2], VCPU_FRAME_LENGTH) == 0);
-    for (i = 0; i < 13; i++)
-        put(arguments, VCPU_SETUP_MSRS + 8 * i, 8, msrs[i]);
+    for (i = 0; i < MSR_COUNT; i++)
+        put(arguments, VCPU_SETUP_MSRS + 8 * i, 8, words[i]);
     put(arguments, VCPU_SETUP_XCR0_SUPPORTED, 8, supported);
     CHECK(vcpu_setup(r, N, arguments, sizeof arguments, frames[0], VCPU_FRAME_LENGTH, frames[1], VCPU_FRAME_LENGTH, frames[2], VCPU_FRAME_LENGTH) == 0);
     go();
+}
+
+static void running(uint64_t supported)
+{
+    running_on(msrs, supported);
 }
 
 /* A report of this reason, otherwise all zero. */
@@ -513,6 +521,25 @@ static void header_numbers(void)
     CHECK(vcpu_exit_report(r, N, block, BLOCK - 1, answer) == VCPU_REFUSED_BYTES);
     CHECK(told(12, VCPU_REPORT_RSP, 8, 0) == 0 && answer[0] == VCPU_ANSWER_HALT);
     CHECK(told(12, VCPU_REPORT_RSP, 8, 0) == VCPU_REFUSED_PHASE);
+}
+
+/*
+ * A move to CR0 with PG is judged by the entry pair that setup used: the TRUE word's (above), and the plain word's with bit 55 of 0x480 clear. Only a plain primary
+ * word that does not demand bits 15 and 16 comes that far.
+ */
+static void kept_entry_pair(void)
+{
+    uint64_t older[MSR_COUNT];
+
+    memcpy(older, msrs, sizeof older);
+    older[MSR_BASIC] = 0;
+    older[MSR_PRIMARY] = 0xFFF9FFFE04006172u;
+    running_on(older, 7);
+    CHECK(told(28, REG_AT(0), 8, 0x80000000) == 0);
+    older[MSR_ENTRY] = 0x3FDFF000011FF;
+    older[MSR_TRUE_ENTRY] = 0x3FFFF000011FB;
+    running_on(older, 7);
+    CHECK(told(28, REG_AT(0), 8, 0x80000000) == VCPU_REFUSED_SET);
 }
 
 /* ---- XSETBV, by document 02 ---- */
@@ -635,6 +662,7 @@ int main(int argc, char **argv)
     unsigned long calls = argc > 1 ? strtoul(argv[1], 0, 10) : 400000, i;
 
     header_numbers();
+    kept_entry_pair();
     values_of_xcr0();
     around_the_rule();
     kept_xcr0();

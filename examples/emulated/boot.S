@@ -93,8 +93,8 @@ no_long:
     xor     %eax, %eax
     mov     %eax, %fs
     mov     %eax, %gs
-    mov     0x7C00 + 500, %edi          # guest
-    mov     0x7C00 + 504, %esi          # options
+    mov     0x7C00 + 496, %edi          # guest
+    mov     0x7C00 + 500, %rsi          # options
     mov     $0x10000, %eax
     jmp     *%rax
 
@@ -116,11 +116,11 @@ no_long_text:
     .asciz  "begin\nending: no long mode\nend\n"
 shutdown:
     .ascii  "Shutdown"
-    .org    500
+    .org    496
 guest:
     .long   0
 options:
-    .long   0
+    .quad   0
 sectors:
     .word   0
     .org    510

@@ -39,15 +39,14 @@ enum {
     IA32_SYSENTER_EIP = 0x176,
     IA32_PAT = 0x277,
     IA32_VMX_BASIC = 0x480,
-    IA32_VMX_PROCBASED_CTLS = 0x482,
     IA32_VMX_MISC = 0x485,
     IA32_VMX_CR0_FIXED0 = 0x486,
     IA32_VMX_CR0_FIXED1 = 0x487,
     IA32_VMX_CR4_FIXED0 = 0x488,
     IA32_VMX_CR4_FIXED1 = 0x489,
-    IA32_VMX_PROCBASED_CTLS2 = 0x48B,
     IA32_VMX_EPT_VPID_CAP = 0x48C,
     LOW_MSRS_LAST = 0x1FFF,
+    NO_MSR = 0x40000000, /* no processor has it (SDM 4, table 2-2) */
     HIGH_MSRS_FIRST = 0xC0000000,
     HIGH_MSRS_LAST = 0xC0001FFF,
     IA32_EFER = 0xC0000080,
@@ -81,6 +80,7 @@ enum {
 #define INFO_SOFTWARE_EXCEPTION(info) (INFO_TYPE(info) == 5 || INFO_TYPE(info) == 6) /* INT1, INT3, INTO */
 #define PIN_PREEMPTION_TIMER (1ull << 6)
 #define SECONDARY_XSAVES (1ull << 20)
+#define BASIC_TRUE_WORDS (1ull << 55)
 
 /* Exit reasons (SDM 3D, appendix C). */
 enum {
@@ -196,7 +196,7 @@ void repaired(const char *how);
 void conclude(void);
 
 /* main.c */
-extern unsigned options;
+extern uint64_t options;
 int deviates(enum option option);
 
 #endif

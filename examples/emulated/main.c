@@ -8,7 +8,7 @@
 #define EXITS_AT_MOST 20000
 #define WINDOWS_AT_MOST 100
 
-unsigned options;
+uint64_t options;
 
 int deviates(enum option option)
 {
@@ -42,9 +42,9 @@ static int endless(void)
     return 0;
 }
 
-void host_main(uint32_t guest, uint32_t chosen);
+void host_main(uint32_t guest, uint64_t chosen);
 
-void host_main(uint32_t guest, uint32_t chosen)
+void host_main(uint32_t guest, uint64_t chosen)
 {
     options = chosen;
     say("begin\n");

@@ -37,7 +37,9 @@
     O(OFFER_ALL)              /* leave bits in leaf 0xD that the supported word lacks */      \
     O(HOST_SIZE)              /* run CPUID of leaf 0xD with the host's XCR0 */                \
     O(HOST_OSXSAVE)           /* leave OSXSAVE of leaf 1 as the host's CR4 has it */          \
-    O(EARLY_SHEET)            /* print no trap sheet after the host's own edits */
+    O(EARLY_SHEET)            /* print no trap sheet after the host's own edits */            \
+    O(OLDER_BOARD)            /* take the processor for a board that lacks 0x48D to 0x490 */  \
+    O(READ_TRUE_WORDS)        /* read 0x48D to 0x490 where bit 55 of 0x480 is clear too */
 
 #define OPTION(name) name,
 enum option { OPTIONS(OPTION) };

@@ -3,34 +3,56 @@
 #include "instructions.h"
 
 #define PAGE __attribute__((aligned(4096)))
-#define WORDS 13
 
 PAGE uint8_t io_a[VCPU_FRAME_LENGTH], io_b[VCPU_FRAME_LENGTH], msrs[VCPU_FRAME_LENGTH];
 uint64_t host_pat;
 static uint8_t block[VCPU_SETUP_LENGTH];
-static const uint16_t word_msr[WORDS] = {0x481, 0x482, 0x483, 0x484, 0x486, 0x487, 0x488, 0x489, 0x48B, 0x48D, 0x48E, 0x48F, 0x490};
+/* The capability words of the block, by their places there. */
+enum { BASIC, PIN, PRIMARY, EXIT, ENTRY, SECONDARY = 9, TRUE_PIN, TRUE_PRIMARY, TRUE_EXIT, TRUE_ENTRY, WORDS };
+static const uint16_t word_msr[WORDS] = {0x480, 0x481, 0x482, 0x483, 0x484, 0x486, 0x487, 0x488, 0x489, 0x48B, 0x48D, 0x48E, 0x48F, 0x490};
+static uint64_t words[WORDS];
 
-/* MSR 0x48B is there where bit 63 of 0x482 is set. */
-static uint64_t word(unsigned i)
+/*
+ * RDMSR of a capability word. No model of the emulator lacks 0x48D to 0x490, so for a board that does the host stands in: bit 55 of 0x480 is clear, and to read
+ * one of the four is to read an MSR that no processor has, which faults.
+ */
+static uint64_t board_word(unsigned i)
 {
-    if (word_msr[i] == IA32_VMX_PROCBASED_CTLS2 && !(rdmsr(IA32_VMX_PROCBASED_CTLS) >> 63))
-        return 0;
-    return rdmsr(word_msr[i]);
+    if (!deviates(OLDER_BOARD))
+        return rdmsr(word_msr[i]);
+    if (i >= TRUE_PIN)
+        return rdmsr(NO_MSR);
+    return i == BASIC ? rdmsr(IA32_VMX_BASIC) & ~BASIC_TRUE_WORDS : rdmsr(word_msr[i]);
 }
 
-static void put_words(void)
+/* MSR 0x48B is there where bit 63 of 0x482 is set, 0x48D to 0x490 are where bit 55 of 0x480 is (SDM 3D, A.2 and A.3). Both words are read before these. */
+static int is_there(unsigned i)
+{
+    if (i == SECONDARY)
+        return words[PRIMARY] >> 63;
+    return i < TRUE_PIN || words[BASIC] & BASIC_TRUE_WORDS || deviates(READ_TRUE_WORDS);
+}
+
+/* The words by number, 0x480 first. One that is not there is not read, and setup gets 0 for it. */
+static void read_words(void)
 {
     unsigned i;
 
     for (i = 0; i < WORDS; i++) {
-        put(block, VCPU_SETUP_MSRS + 8 * i, 8, word(i));
-        say("msr %x: %x\n", (uint64_t)word_msr[i], word(i));
+        words[i] = is_there(i) ? board_word(i) : 0;
+        say("msr %x: %x\n", (uint64_t)word_msr[i], words[i]);
     }
-    say("msr %x: %x\n", (uint64_t)IA32_VMX_BASIC, rdmsr(IA32_VMX_BASIC));
     say("msr %x: %x\n", (uint64_t)IA32_VMX_MISC, rdmsr(IA32_VMX_MISC));
     /* 0x48C is there where the processor offers EPT or VPID, secondary controls 1 and 5. */
-    if (word(8) >> 32 & 0x22)
+    if (words[SECONDARY] >> 32 & 0x22)
         say("msr %x: %x\n", (uint64_t)IA32_VMX_EPT_VPID_CAP, rdmsr(IA32_VMX_EPT_VPID_CAP));
+}
+
+/* Words stand in the block as in memory, least significant byte first. */
+static void put_words(const uint64_t *given)
+{
+    _Static_assert(VCPU_SETUP_MSRS + sizeof words == VCPU_SETUP_XCR0_SUPPORTED, "the block has as many words");
+    memcpy(block + VCPU_SETUP_MSRS, given, sizeof words);
 }
 
 /* The host's state, to which an exit returns. FS and GS have the selector 0. */
@@ -107,21 +129,47 @@ static void put_offers(void)
 
 /* ---- Which bits decide ---- */
 
-/* The words that hold the five pairs, in the order in which setup judges them: pin, primary, secondary, exit, entry. */
-static const unsigned pair_word[5] = {9, 10, 8, 11, 12};
+/* The words whose pairs are used where bit 55 of 0x480 is clear and where it is set, in the order in which setup judges them. */
+static const unsigned used_words[2][5] = {{PIN, PRIMARY, SECONDARY, EXIT, ENTRY}, {TRUE_PIN, TRUE_PRIMARY, SECONDARY, TRUE_EXIT, TRUE_ENTRY}};
 /* A word all of whose bits are free: allowed-1 is the high half, allowed-0 the low one. */
 #define FREE 0xFFFFFFFF00000000
 
-/* What setup says of a new session where all five words are free, but for this one. */
-static uint32_t trial(unsigned which, uint64_t value)
+static const unsigned *used(void)
+{
+    return used_words[(words[BASIC] & BASIC_TRUE_WORDS) != 0];
+}
+
+/* What setup says of a new session with these words. */
+static uint32_t ask(const uint64_t *given)
 {
     static uint8_t new_record[VCPU_RECORD_LENGTH], a[VCPU_FRAME_LENGTH], b[VCPU_FRAME_LENGTH], m[VCPU_FRAME_LENGTH];
-    unsigned i;
 
-    for (i = 0; i < 5; i++)
-        put(block, VCPU_SETUP_MSRS + 8 * pair_word[i], 8, pair_word[i] == which ? value : FREE);
+    put_words(given);
     memset(new_record, 0, sizeof new_record); /* as vcpu_new leaves it */
     return vcpu_setup(new_record, sizeof new_record, block, sizeof block, a, sizeof a, b, sizeof b, m, sizeof m);
+}
+
+/* The same of the processor's words on a board without 0x48D to 0x490. */
+static uint32_t ask_as_older_board(void)
+{
+    uint64_t given[WORDS];
+
+    memcpy(given, words, sizeof given);
+    given[BASIC] &= ~BASIC_TRUE_WORDS;
+    memset(given + TRUE_PIN, 0, sizeof given - TRUE_PIN * sizeof given[0]);
+    return ask(given);
+}
+
+/* The same where all five words used are free, but for this one. */
+static uint32_t trial(unsigned which, uint64_t value)
+{
+    uint64_t given[WORDS];
+    unsigned i;
+
+    memcpy(given, words, sizeof given);
+    for (i = 0; i < 5; i++)
+        given[used()[i]] = used()[i] == which ? value : FREE;
+    return ask(given);
 }
 
 /* Asks the core bit by bit: is it to be set, or clear, and is it as the processor has it a reason to refuse? */
@@ -137,7 +185,7 @@ static void list_bits(unsigned which)
             say("to set: %x %d\n", msr, bit);
         if (trial(which, FREE | allowed0) == VCPU_REFUSED_CLEAR)
             say("to clear: %x %d\n", msr, bit);
-        if (trial(which, (FREE & ~allowed1) | (word(which) & (allowed0 | allowed1))))
+        if (trial(which, (FREE & ~allowed1) | (words[which] & (allowed0 | allowed1))))
             say("cause: %x %d\n", msr, bit);
     }
 }
@@ -147,7 +195,7 @@ static void list_words(void)
     unsigned i;
 
     for (i = 0; i < 5; i++)
-        list_bits(pair_word[i]);
+        list_bits(used()[i]);
 }
 
 /* ---- The session ---- */
@@ -187,17 +235,15 @@ void make_session(uint64_t guest)
 {
     uint32_t number;
 
-    if (!(rdmsr(IA32_VMX_BASIC) >> 55 & 1)) {
-        ending("no TRUE capability words");
-        stop();
-    }
-    put_words();
+    read_words();
+    put_words(words);
     put_host();
     put_guest(guest);
     put_offers();
     vcpu_new(record, sizeof record, io_a, sizeof io_a, io_b, sizeof io_b, msrs, sizeof msrs);
     number = vcpu_setup(record, sizeof record, block, sizeof block, io_a, sizeof io_a, io_b, sizeof io_b, msrs, sizeof msrs);
     say("setup: %d\n", number);
+    say("setup with bit 55 clear: %d\n", ask_as_older_board());
     list_words();
     if (number) {
         ending("setup refused %d", number);

@@ -2,7 +2,7 @@
     .code64
     .section .text.start, "ax"
     .globl start
-start:                                  # EDI and ESI: what the boot sector brings
+start:                                  # EDI and RSI: what the boot sector brings
     mov     %edi, %r12d
     lea     bss_start(%rip), %rdi       # the image on the disk ends before the variables
     lea     bss_end(%rip), %rcx

@@ -1,6 +1,6 @@
 # Accesses to ports and MSRs, each named in ACCESSES before it is made: those on a line of the trap sheet exit, the others do not. What they bring doesn't matter.
     .code16
-    past    gp 0x0D                     # RDMSR or WRMSR of an MSR that the processor lacks; Bochs lets most of them pass
+    past    gp 0x0D                     # RDMSR or WRMSR of an MSR that the processor lacks
 
 in_1:
     in      %dx, %al

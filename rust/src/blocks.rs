@@ -1,6 +1,6 @@
 //! The byte blocks of setup and of an exit report, from structs.
 
-pub const SETUP_LENGTH: usize = 265;
+pub const SETUP_LENGTH: usize = 273;
 pub const REPORT_LENGTH: usize = 244;
 
 /// Writes numbers one behind the other, least significant byte first.
@@ -68,8 +68,9 @@ pub struct Setup {
     pub io_bitmap_a: u64,
     pub io_bitmap_b: u64,
     pub msr_bitmaps: u64,
-    /// The capability MSRs 0x481 to 0x484, 0x486 to 0x489, 0x48B, 0x48D to 0x490.
-    pub msrs: [u64; 13],
+    /// The capability MSRs 0x480 to 0x484, 0x486 to 0x489, 0x48B, 0x48D to 0x490. Where bit 55 of the first is clear the processor lacks the last four, the
+    /// TRUE words: they are not looked at, and a host gives 0 for them and does not read the MSRs.
+    pub msrs: [u64; 14],
     /// The bits of XCR0 that the guest may set: CPUID leaf 0xD, subleaf 0, EDX:EAX, or fewer.
     pub xcr0_supported: u64,
     pub rdtscp: bool,

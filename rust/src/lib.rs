@@ -359,7 +359,7 @@ impl Session {
     ///
     /// # Errors
     ///
-    /// [`Refusal::Phase`] (not fresh), [`Refusal::Pair`], [`Refusal::Set`], [`Refusal::Clear`].
+    /// [`Refusal::Phase`] (not fresh), [`Refusal::Pair`], [`Refusal::Set`], [`Refusal::Clear`]. Most processors without the TRUE words get the last.
     pub fn setup(&mut self, setup: &Setup, frames: &mut Frames) -> Result<(), Refusal> {
         let block = setup.to_bytes();
         let (a, b, m) = (&mut frames.io_a.0, &mut frames.io_b.0, &mut frames.msr.0);

@@ -11,7 +11,8 @@ use x86_vcpu_core::{
     RECORD_LENGTH, SHEET_LARGEST, SHEET_LINE,
 };
 
-const WORDS: [u64; 13] = [
+const WORDS: [u64; 14] = [
+    0x00DA_0400_0000_0004,
     0x0000_007F_0000_0016,
     0xFFF9_FFFE_0401_E172,
     0x01FF_FFFF_0003_6DFF,
@@ -27,8 +28,9 @@ const WORDS: [u64; 13] = [
     0x0003_FFFF_0000_11FB,
 ];
 
-/// Where the fields lie in a record.
+/// Where the fields lie in a record, and the pairs that it keeps: pin, primary, secondary, exit, entry.
 const FIELDS: std::ops::Range<usize> = 138..1068;
+const PAIRS: std::ops::Range<usize> = 1397..1437;
 
 /// X87, SSE and AVX.
 const XCR0_SUPPORTED: u64 = 7;
@@ -91,10 +93,52 @@ fn setup_refuses_a_processor_without_ept() {
     let mut frames = Frames::new();
     let mut session = Session::new(&mut frames);
     let mut arguments = setup();
-    arguments.msrs[8] = 0x55CF_EFFD_0000_0000;
+    arguments.msrs[9] = 0x55CF_EFFD_0000_0000;
     let before = session.clone();
     assert_eq!(session.setup(&arguments, &mut frames), Err(Refusal::Set));
     assert_eq!(session, before);
+}
+
+/// For the TRUE words of an older board: 0, as a host gives, words that contradict themselves, and those of a processor that has them.
+const TRUE_WORDS: [[u64; 4]; 3] = [
+    [0; 4],
+    [0x1234_5678_9ABC_DEF0, 1, 0xFFFF_FFFF, 0x0F0F_0F0F_F0F0_F0F0],
+    [WORDS[10], WORDS[11], WORDS[12], WORDS[13]],
+];
+
+/// A board without the TRUE words: bit 55 of 0x480 is clear.
+fn older_board(primary: u64, true_words: [u64; 4]) -> Setup {
+    let mut arguments = setup();
+    arguments.msrs[0] &= !(1 << 55);
+    arguments.msrs[2] = primary;
+    arguments.msrs[10..].copy_from_slice(&true_words);
+    arguments
+}
+
+/// Its 0x482 demands bits 15 and 16, which setup clears.
+#[test]
+fn setup_refuses_an_older_board() {
+    for true_words in TRUE_WORDS {
+        let mut frames = Frames::new();
+        let mut session = Session::new(&mut frames);
+        let before = session.clone();
+        assert_eq!(session.setup(&older_board(WORDS[2], true_words), &mut frames), Err(Refusal::Clear));
+        assert_eq!(session, before);
+    }
+}
+
+/// Where 0x482 demands neither bit, the plain words are used and kept, whatever stands in the TRUE words.
+#[test]
+fn setup_takes_an_older_board_by_its_plain_words() {
+    let primary = WORDS[2] & !0x0001_8000;
+    for true_words in TRUE_WORDS {
+        let mut frames = Frames::new();
+        let mut session = Session::new(&mut frames);
+        session.setup(&older_board(primary, true_words), &mut frames).unwrap();
+        assert_eq!(session.read_field(VmcsControl32::PRIMARY_PROCBASED_EXEC_CONTROLS), Ok(0x9600_6172));
+        let pairs = [WORDS[1], primary, WORDS[9], WORDS[3], WORDS[4]].map(u64::to_le_bytes);
+        assert_eq!(session.as_bytes()[PAIRS], *pairs.as_flattened());
+    }
 }
 
 /// A host word, told by its field, is at its place in the block.
@@ -268,7 +312,7 @@ fn reports_are_refused_by_name() {
     let mut frames = Frames::new();
     let mut session = Session::new(&mut frames);
     let mut arguments = setup();
-    arguments.msrs[12] = 0x0003_FDFF_0000_11FB;
+    arguments.msrs[13] = 0x0003_FDFF_0000_11FB;
     session.setup(&arguments, &mut frames).unwrap();
     session.entry(0).unwrap();
     let told = |reason| report(&session, reason);

@@ -9,7 +9,7 @@ use crate::tally::{Tally, Totals};
 use oracle::generate::Random;
 use oracle::record::{self, LENGTH};
 use oracle::samples::usual_setup;
-use oracle::{FRAME_BYTES, Report, Setup};
+use oracle::{FRAME_BYTES, Report, Setup, VMX_FLEX_CONTROLS};
 
 const CR0: u32 = 0x6800;
 const CR4: u32 = 0x6804;
@@ -152,7 +152,7 @@ struct Kept {
     port: fn() -> String,
 }
 
-const KEPT: [Kept; 45] = [
+const KEPT: [Kept; 46] = [
     Kept {
         name: "bitmap length",
         document: "accepted, bytes change; byte 1,024 of A is 0x1",
@@ -393,6 +393,14 @@ const KEPT: [Kept; 45] = [
             let before = port.xcr0();
             let text = port.number(|port| port.setup(&usual_setup()));
             format!("XCR0 {before:#x}; {text}; XCR0 {:#x}", port.xcr0())
+        },
+    },
+    Kept {
+        name: "no TRUE words",
+        document: "refused 9, nothing changes",
+        port: || {
+            let setup = changed(|s| s.vmx_basic &= !VMX_FLEX_CONTROLS);
+            Port::new().number(|port| port.setup(&setup))
         },
     },
     Kept {

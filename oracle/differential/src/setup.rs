@@ -2,6 +2,9 @@
 //!
 //! The original's pairs are tested one by one, its fixed bits not at all, and it has no records, phases and lengths: what document 01
 //! says of these is compared on a line of its own, and so are host words that the original can't take.
+//!
+//! The original reads the TRUE words always. Where bit 55 of IA32_VMX_BASIC is clear document 02 decides (N4): the port must do what the original does
+//! when it finds the plain words in the TRUE MSRs, whatever the block has for TRUE words. This has a line of its own too.
 
 use crate::archive;
 use crate::buffer::Buffer;
@@ -13,12 +16,16 @@ use oracle::blocks::{SETUP_BYTES, SETUP_FLAGS};
 use oracle::generate::Random;
 use oracle::record::{self, LENGTH};
 use oracle::samples::{processors, usual_setup};
-use oracle::{Call as Original, Capabilities, FRAME_BYTES, Setup, refusal_number};
+use oracle::{Call as Original, Capabilities, FRAME_BYTES, Setup, VMX_FLEX_CONTROLS, refusal_number};
 
 const PAIR_REFUSED: u32 = 6;
 const HOST_CR3: u32 = 0x6C02;
 const HOST_TR: u32 = 0x0C0C;
 const CR3_FRAME: u64 = 0x000F_FFFF_FFFF_F000;
+/// Among the pairs: of it there is no TRUE word.
+const SECONDARY: usize = 2;
+/// What the capability words can bring, 0 being an accepted setup.
+const WORD_NUMBERS: [u32; 4] = [0, 6, 8, 9];
 
 /// Record, arguments, I/O A, I/O B and MSR.
 const LENGTHS: [usize; 5] = [LENGTH, SETUP_BYTES, FRAME_BYTES, FRAME_BYTES, FRAME_BYTES];
@@ -29,6 +36,33 @@ struct Sides {
     ours: [Buffer; 5],
     inside: Tally,
     outside: Tally,
+    plain: Tally,
+}
+
+/// The setup whose TRUE words are those that document 02 says are used: the plain ones where bit 55 of IA32_VMX_BASIC is clear.
+pub fn used(setup: &Setup) -> Setup {
+    let mut used = setup.clone();
+    if setup.vmx_basic & VMX_FLEX_CONTROLS == 0 {
+        let [pin, primary, exit, entry] = setup.capabilities.plain;
+        let secondary = setup.capabilities.pairs[SECONDARY];
+        used.capabilities.pairs = [pin, primary, secondary, exit, entry];
+    }
+    used
+}
+
+/// The setup on a board without the TRUE words: its pairs are in the plain words, and anything may stand in the TRUE ones.
+pub fn older_board(random: &mut Random, setup: &Setup) -> Setup {
+    let mut older = setup.clone();
+    older.vmx_basic &= !VMX_FLEX_CONTROLS;
+    let [pin, primary, secondary, exit, entry] = setup.capabilities.pairs;
+    older.capabilities.plain = [pin, primary, exit, entry];
+    let usual = random.pick(&processors().each_ref()).pairs;
+    older.capabilities.pairs = usual.map(|pair| {
+        let any = random.word();
+        random.pick(&[0, pair, any, any])
+    });
+    older.capabilities.pairs[SECONDARY] = secondary;
+    older
 }
 
 /// The setup that the original can be asked: CR3 is a frame, and the TR selector has a following descriptor.
@@ -46,6 +80,16 @@ impl Sides {
             ours: LENGTHS.map(|length| Buffer::new(2 * length)),
             inside: Tally::new("vcpu_setup"),
             outside: Tally::new("vcpu_setup, refusals and host words (document 01)"),
+            plain: Tally::new("vcpu_setup, plain words (document 02)"),
+        }
+    }
+
+    /// The line of a setup, which the original was asked or not.
+    fn line(&mut self, setup: &Setup, asked: bool) -> &mut Tally {
+        match setup.vmx_basic & VMX_FLEX_CONTROLS {
+            0 => &mut self.plain,
+            _ if asked => &mut self.inside,
+            _ => &mut self.outside,
         }
     }
 
@@ -108,15 +152,14 @@ impl Sides {
     fn compare(&mut self, setup: &Setup) {
         self.ours[1].content_mut()[..SETUP_BYTES].copy_from_slice(&setup.block());
         let mut expected = self.ours.each_ref().map(|buffer| buffer.content().to_vec());
-        let (number, asked) = self.original(setup);
+        let (number, asked) = self.original(&used(setup));
         for (bytes, content) in expected.iter_mut().zip(self.contents()) {
             bytes[..content.len()].copy_from_slice(&content);
         }
         let answer = self.port(LENGTHS);
         let read = self.wrong_xcr0();
         let wrong: Vec<String> = read.into_iter().chain(self.wrong_bytes(&expected)).collect();
-        let tally = if asked { &mut self.inside } else { &mut self.outside };
-        tally.compare_number(number, answer == number && wrong.is_empty(), || {
+        self.line(setup, asked).compare_number(number, answer == number && wrong.is_empty(), || {
             format!("{setup:x?}: expected {number}, port {answer}; {wrong:?}")
         });
     }
@@ -144,9 +187,21 @@ impl Sides {
         let before = self.ours.each_ref().map(|buffer| buffer.content().to_vec());
         let answer = self.port(lengths);
         let wrong = self.wrong_bytes(&before);
-        self.outside.compare_number(number, answer == number && wrong.is_empty(), || {
+        self.line(setup, false).compare_number(number, answer == number && wrong.is_empty(), || {
             format!("lengths {lengths:?}, {setup:x?}: expected {number}, port {answer}; {wrong:?}")
         });
+    }
+
+    /// A setup, and the same on a board without the TRUE words; so many in a hundred refused by 2 or by 1.
+    fn compare_boards(&mut self, random: &mut Random, setup: Setup, refused: u64) {
+        for setup in [older_board(random, &setup), setup] {
+            self.start(random);
+            if random.chance(refused) {
+                self.compare_refused(random, &setup);
+            } else {
+                self.compare(&setup);
+            }
+        }
     }
 
     /// XCR0 as it is read, where the answers say otherwise.
@@ -243,23 +298,25 @@ fn random_setup(random: &mut Random) -> Setup {
     setup
 }
 
+/// Usual capabilities; and with the pairs of a board whose plain words are these, which demand bits that setup clears.
+fn bases() -> Vec<Capabilities> {
+    let usual: Vec<Capabilities> = processors().into_iter().chain([usual_setup().capabilities]).collect();
+    let plain = usual.iter().map(|c| used(&Setup { capabilities: c.clone(), ..Setup::default() }).capabilities);
+    plain.chain(usual.iter().cloned()).collect()
+}
+
 pub fn run(random: &mut Random, cases: u64, totals: &mut Totals) {
     let mut sides = Sides::new();
-    for base in processors().iter().chain([&usual_setup().capabilities]) {
-        for capabilities in broken_words(base).into_iter().chain(broken_pairs(base)) {
-            sides.start(random);
-            sides.compare(&Setup { capabilities, ..random.setup() });
-        }
+    let broken = bases().into_iter().flat_map(|base| [broken_words(&base), broken_pairs(&base)].concat());
+    for capabilities in broken {
+        let setup = Setup { capabilities, ..random.setup() };
+        sides.compare_boards(random, setup, 0);
     }
     for _ in 0..cases {
-        sides.start(random);
         let setup = random_setup(random);
-        if random.chance(10) {
-            sides.compare_refused(random, &setup);
-        } else {
-            sides.compare(&setup);
-        }
+        sides.compare_boards(random, setup, 10);
     }
-    totals.add(sides.inside);
-    totals.add(sides.outside);
+    sides.inside.demand(&WORD_NUMBERS);
+    sides.plain.demand(&WORD_NUMBERS);
+    [sides.inside, sides.outside, sides.plain].into_iter().for_each(|line| totals.add(line));
 }

@@ -25,6 +25,15 @@ impl Tally {
         self.compare(same, what);
     }
 
+    /// Numbers that must be among those that were expected: each that is not counts as a difference.
+    pub fn demand(&mut self, numbers: &[u32]) {
+        for &number in numbers {
+            if self.numbers[number as usize] == 0 {
+                self.compare(false, || format!("{number} was never expected"));
+            }
+        }
+    }
+
     /// The numbers that were expected, each with how often.
     fn numbers(&self) -> String {
         let counted = self.numbers.iter().enumerate().filter(|(_, times)| **times > 0);

@@ -1,5 +1,7 @@
 //! Whole sessions: a new one, its setup, and then calls of every kind until an entry fails. Nothing but the archive's own calls moves the
 //! port's record and frames. After each call the number, the results, every byte of the record and of the three frames are compared.
+//!
+//! Some sessions are on a board without the TRUE words. Document 02 decides of them (`setup::used`), so all their calls are on a line of their own.
 
 use crate::archive;
 use crate::buffer::Buffer;
@@ -7,6 +9,7 @@ use crate::calls::{self, Call, Reply};
 use crate::choose;
 use crate::report;
 use crate::session::Session;
+use crate::setup;
 use crate::tally::{Tally, Totals};
 use crate::xsetbv;
 use oracle::generate::Random;
@@ -21,11 +24,30 @@ const REASONS: usize = 65;
 const ANSWERS: usize = 12;
 const FRAMES: [&str; 3] = ["I/O A", "I/O B", "MSR"];
 
+/// Sessions in a hundred on a board without the TRUE words.
+const OLDER_BOARDS: u64 = 20;
+
+#[derive(Clone, Copy)]
+enum Line {
+    Calls,
+    Reports,
+    Xsetbv,
+    PlainWords,
+}
+
+/// In the order of `Line`.
+const LINES: [&str; 4] = [
+    "whole sessions, calls",
+    "whole sessions, exit reports",
+    "whole sessions, XSETBV (document 02)",
+    "whole sessions, plain words (document 02)",
+];
+
 /// The lines, and how often each reason and each answer occurred.
 struct Counts {
-    calls: Tally,
-    reports: Tally,
-    xsetbv: Tally,
+    lines: [Tally; LINES.len()],
+    /// Whether the session at hand is on a board without the TRUE words.
+    older: bool,
     sessions: u64,
     exits: u64,
     reasons: [u64; REASONS],
@@ -35,14 +57,19 @@ struct Counts {
 impl Counts {
     fn new() -> Self {
         Counts {
-            calls: Tally::new("whole sessions, calls"),
-            reports: Tally::new("whole sessions, exit reports"),
-            xsetbv: Tally::new("whole sessions, XSETBV (document 02)"),
+            lines: LINES.map(Tally::new),
+            older: false,
             sessions: 0,
             exits: 0,
             reasons: [0; REASONS],
             answers: [0; ANSWERS],
         }
+    }
+
+    /// The line of a call of the session at hand.
+    fn line(&mut self, line: Line) -> &mut Tally {
+        let line = if self.older { Line::PlainWords } else { line };
+        &mut self.lines[line as usize]
     }
 
     fn exit(&mut self, report: &Report, expected: &Reply) {
@@ -64,9 +91,7 @@ impl Counts {
             least(&self.reasons),
             least(&self.answers)
         );
-        totals.add(self.calls);
-        totals.add(self.reports);
-        totals.add(self.xsetbv);
+        self.lines.into_iter().for_each(|line| totals.add(line));
     }
 }
 
@@ -90,7 +115,7 @@ impl Whole {
         let r = whole.session.ours.pointer();
         let number = unsafe { vcpu_new(r, LENGTH, a, n, b, n, m, n) };
         counts.sessions += 1;
-        whole.check(&mut counts.calls, Reply::accepted(&[]), Reply::refused(number), || "vcpu_new".to_string());
+        whole.check(counts.line(Line::Calls), Reply::accepted(&[]), Reply::refused(number), || "vcpu_new".to_string());
         whole
     }
 
@@ -110,12 +135,14 @@ impl Whole {
         }
     }
 
-    fn set_up(&mut self, random: &mut Random, tally: &mut Tally) {
+    fn set_up(&mut self, random: &mut Random, counts: &mut Counts) {
         let vcpu_setup = archive::vcpu_setup().expect("the function");
-        let setup = random.setup();
-        let outcome = self.session.oracle.attempt(|oracle| oracle.setup(&setup));
+        let any = random.setup();
+        let setup = if counts.older { setup::older_board(random, &any) } else { any };
+        let used = setup::used(&setup);
+        let outcome = self.session.oracle.attempt(|oracle| oracle.setup(&used));
         if outcome.is_ok() {
-            self.session.reference.set_up(&setup);
+            self.session.reference.set_up(&used);
             self.expected = self.session.oracle.frames().map(|frame| *frame);
         }
         let block = setup.block();
@@ -123,6 +150,7 @@ impl Whole {
         let [a, b, m] = self.frames.each_mut().map(|frame| frame.pointer());
         let r = self.session.ours.pointer();
         let number = unsafe { vcpu_setup(r, LENGTH, block.as_ptr(), block.len(), a, n, b, n, m, n) };
+        let tally = counts.line(Line::Calls);
         self.check(tally, done(Original::Setup, outcome), Reply::refused(number), || format!("{setup:x?}"));
     }
 
@@ -132,7 +160,7 @@ impl Whole {
         let expected = report::expected(&report, &outcome);
         counts.exit(&report, &expected);
         let reply = report::port(&mut self.session.ours, LENGTH, &report.block());
-        self.check(&mut counts.reports, expected, reply, || format!("{report:x?}"));
+        self.check(counts.line(Line::Reports), expected, reply, || format!("{report:x?}"));
     }
 
     /// XSETBV, of which document 02 decides.
@@ -141,7 +169,7 @@ impl Whole {
         let expected = xsetbv::expected(&mut self.session, &report);
         counts.exit(&report, &expected);
         let reply = report::port(&mut self.session.ours, LENGTH, &report.block());
-        self.check(&mut counts.xsetbv, expected, reply, || format!("{report:x?}"));
+        self.check(counts.line(Line::Xsetbv), expected, reply, || format!("{report:x?}"));
     }
 
     /// A report that document 01 refuses and the original does not: it changes nothing.
@@ -201,18 +229,20 @@ impl Whole {
     fn step(&mut self, random: &mut Random, counts: &mut Counts) {
         let on = random.chance(50);
         match self.session.reference.phase {
-            record::FRESH if on => self.set_up(random, &mut counts.calls),
-            record::READY if on => self.call(&mut counts.calls, Call::Entry { host_stack: random.word() }),
+            record::FRESH if on => self.set_up(random, counts),
+            record::READY if on => self.call(counts.line(Line::Calls), Call::Entry { host_stack: random.word() }),
             record::RUNNING if on && random.chance(10) => self.xsetbv(random, counts),
             record::RUNNING if on => self.report(random, counts),
-            record::RUNNING if random.chance(5) => self.refused_report(random, &mut counts.reports),
-            record::WAITING_PHASE if on => self.call(&mut counts.calls, Call::ApicValue { value: random.word() }),
+            record::RUNNING if random.chance(5) => self.refused_report(random, counts.line(Line::Reports)),
+            record::WAITING_PHASE if on => {
+                self.call(counts.line(Line::Calls), Call::ApicValue { value: random.word() })
+            }
             _ => match random.below(10) {
-                0 => self.edit_ports(random, &mut counts.calls),
-                1 => self.edit_msr(random, &mut counts.calls),
+                0 => self.edit_ports(random, counts.line(Line::Calls)),
+                1 => self.edit_msr(random, counts.line(Line::Calls)),
                 _ => {
                     let which = random.below(calls::NAMES.len() as u64) as usize;
-                    self.call(&mut counts.calls, choose::call(random, which));
+                    self.call(counts.line(Line::Calls), choose::call(random, which));
                 }
             },
         }
@@ -229,6 +259,7 @@ fn done(call: Original, outcome: Outcome<()>) -> Reply {
 pub fn run(random: &mut Random, cases: u64, totals: &mut Totals) {
     let mut counts = Counts::new();
     while counts.exits < cases.div_ceil(SHARE) {
+        counts.older = random.chance(OLDER_BOARDS);
         let mut whole = Whole::new(&mut counts);
         for i in 0..CALLS {
             whole.step(random, &mut counts);

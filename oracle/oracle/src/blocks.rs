@@ -4,18 +4,18 @@
 use crate::{Capabilities, HostWords, Report, Setup};
 
 /// How many numbers setup takes.
-pub const SETUP_NUMBERS: usize = 41;
-/// Their widths in bytes: 18 host words, entry, guest PAT, four addresses, 13 capability MSRs, the supported bits of XCR0, three
+pub const SETUP_NUMBERS: usize = 42;
+/// Their widths in bytes: 18 host words, entry, guest PAT, four addresses, 14 capability MSRs, the supported bits of XCR0, three
 /// yes/no bytes.
 pub const SETUP_WIDTHS: [usize; SETUP_NUMBERS] = [
     8, 8, 8, 8, 8, 2, 2, 2, 2, 2, 2, 8, 8, 2, 8, 8, 8, 8, // host
     8, 8, // entry, guest PAT
     8, 8, 8, 8, // EPT root, I/O A, I/O B, MSR
-    8, 8, 8, 8, 8, 8, 8, 8, 8, 8, 8, 8, 8, // MSRs
+    8, 8, 8, 8, 8, 8, 8, 8, 8, 8, 8, 8, 8, 8, // MSRs
     8, // supported bits of XCR0
     1, 1, 1, // RDTSCP, INVPCID, XSAVES
 ];
-pub const SETUP_BYTES: usize = 265;
+pub const SETUP_BYTES: usize = 273;
 /// Where the yes/no bytes stand.
 pub const SETUP_FLAGS: usize = SETUP_BYTES - 3;
 
@@ -36,6 +36,7 @@ impl Setup {
         numbers.extend([h.fs_base, h.gs_base, h.tr as u64, h.tr_base, h.gdtr_base, h.idtr_base, h.rip]);
         numbers.extend([self.entry, self.guest_pat, self.ept_root]);
         numbers.extend(self.frames);
+        numbers.push(self.vmx_basic);
         numbers.extend(c.plain);
         numbers.extend(c.fixed());
         numbers.extend([secondary, pin, primary, exit, entry]);
@@ -73,18 +74,19 @@ impl Setup {
             guest_pat: n[19],
             ept_root: n[20],
             frames: [n[21], n[22], n[23]],
+            vmx_basic: n[24],
             capabilities: Capabilities {
-                plain: [n[24], n[25], n[26], n[27]],
-                cr0_fixed0: n[28],
-                cr0_fixed1: n[29],
-                cr4_fixed0: n[30],
-                cr4_fixed1: n[31],
-                pairs: [n[33], n[34], n[32], n[35], n[36]],
+                plain: [n[25], n[26], n[27], n[28]],
+                cr0_fixed0: n[29],
+                cr0_fixed1: n[30],
+                cr4_fixed0: n[31],
+                cr4_fixed1: n[32],
+                pairs: [n[34], n[35], n[33], n[36], n[37]],
             },
-            xcr0_supported: n[37],
-            rdtscp: n[38] == 1,
-            invpcid: n[39] == 1,
-            xsaves: n[40] == 1,
+            xcr0_supported: n[38],
+            rdtscp: n[39] == 1,
+            invpcid: n[40] == 1,
+            xsaves: n[41] == 1,
         }
     }
 

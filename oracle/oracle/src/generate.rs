@@ -3,10 +3,10 @@
 //! The comparable domain is where document 01 says that the Rust decides: no port that the Rust's
 //! 1,024-byte bitmaps lack, no I/O size of 8, no interruption type 1, no failed entry of a reason other
 //! than 33, 34 and 41, CR0 and CR4 as their masks demand, fixed bits that agree, a host CR3 that is a
-//! frame, a TR selector with a following descriptor. Of XSETBV document 02 decides: the comparable domain
-//! has none.
+//! frame, a TR selector with a following descriptor. Of XSETBV and of processors without the TRUE words
+//! document 02 decides: the comparable domain has none, and bit 55 of IA32_VMX_BASIC is set in every setup.
 
-use crate::{Capabilities, HostWords, Oracle, Report, Setup};
+use crate::{Capabilities, HostWords, Oracle, Report, Setup, VMX_FLEX_CONTROLS};
 
 /// A xorshift generator.
 pub struct Random {
@@ -104,6 +104,7 @@ impl Random {
             entry: self.word(),
             ept_root: self.word(),
             frames: [self.word(), self.word(), self.word()],
+            vmx_basic: self.word() | VMX_FLEX_CONTROLS,
             capabilities: self.capabilities(),
             guest_pat: self.word(),
             xcr0_supported: self.xcr0_supported(),

@@ -17,7 +17,7 @@ mod words;
 pub use machine::Machine;
 pub use refusal::{Call, refusal_number};
 pub use state::State;
-pub use words::{Answer, Capabilities, Entered, EntryEvent, Failure, HostWords, Report, Setup};
+pub use words::{Answer, Capabilities, Entered, EntryEvent, Failure, HostWords, Report, Setup, VMX_FLEX_CONTROLS};
 pub use x86_vcpu::access;
 pub use x86_vcpu::access::PageWalk;
 pub use x86_vcpu::access::fields::FIELDS;

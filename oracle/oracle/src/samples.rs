@@ -20,6 +20,7 @@ pub fn usual_setup() -> Setup {
         entry: 0x8000,
         ept_root: 0x1FFF,
         frames: [0xA000, 0xB000, 0xC000],
+        vmx_basic: 0x00DA_0400_0000_0004,
         capabilities: Capabilities {
             pairs: [pair(0x16), pair(0x0400_6172), pair(0), pair(0x36DFB), pair(0x11FB)],
             plain: [pair(0x16), pair(0x0401_E172), pair(0x36DFF), pair(0x11FF)],

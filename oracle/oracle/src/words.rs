@@ -7,6 +7,9 @@ use x86_vcpu::access::{self, AxVCpuExitReason, VmxVcpu};
 pub const MSR_PAT: u32 = 0x277;
 pub const MSR_EFER: u32 = 0xC000_0080;
 pub const MSR_TRUE_ENTRY: u32 = 0x490;
+pub const MSR_VMX_BASIC: u32 = 0x480;
+/// Bit 55 of it: the processor has the TRUE words.
+pub const VMX_FLEX_CONTROLS: u64 = 1 << 55;
 /// Fixed-0, then fixed-1.
 pub const MSR_CR0_FIXED: [u32; 2] = [0x486, 0x487];
 pub const MSR_CR4_FIXED: [u32; 2] = [0x488, 0x489];
@@ -111,6 +114,8 @@ pub struct Setup {
     pub ept_root: u64,
     /// Physical addresses of I/O A, I/O B and MSR.
     pub frames: [u64; 3],
+    /// MSR 0x480, which the original's setup does not read.
+    pub vmx_basic: u64,
     pub capabilities: Capabilities,
     pub guest_pat: u64,
     /// The port's alone: the original has no such word.
@@ -130,6 +135,7 @@ impl Setup {
         m.set_msr(MSR_EFER, host.efer);
         m.set_msr(0xC000_0100, host.fs_base);
         m.set_msr(0xC000_0101, host.gs_base);
+        m.set_msr(MSR_VMX_BASIC, self.vmx_basic);
         m.cr0 = host.cr0;
         m.cr3 = host.cr3;
         m.cr4 = host.cr4;

@@ -26,7 +26,7 @@ const HEADING: &str = "\
 One process, the same inputs, the median of 401 batches of each side, the batches taking turns. Nanoseconds a call.
 
 The port: calls of the C archive. Each call tests the record's bytes and reads and changes it in place; setup decodes it and writes it back whole. An exit report
-also decodes a block of 244 bytes, setup one of 265. No call keeps anything between calls.
+also decodes a block of 244 bytes, setup one of 273. No call keeps anything between calls.
 
 The Rust: the original's functions over arrays, called bare (no record, no block, nothing caught), as a release build has them: without overflow checks, all
 crates optimized together. Its state stays in memory. A field is an array access in place of VMREAD or VMWRITE, an MSR a search of a short list in place of

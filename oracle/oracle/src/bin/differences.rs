@@ -59,9 +59,9 @@ fn fields(oracle: &mut Oracle, encodings: &[u32]) -> String {
 }
 
 /// Those that document 02 decides; document 01 decides the others.
-const BY_DOCUMENT_02: [&str; 3] = ["XSETBV", "XCR0 values", "first XCR0"];
+const BY_DOCUMENT_02: [&str; 4] = ["XSETBV", "XCR0 values", "first XCR0", "no TRUE words"];
 
-const DIFFERENCES: [Difference; 45] = [
+const DIFFERENCES: [Difference; 46] = [
     Difference {
         name: "bitmap length",
         input: "port edit, port 0x2000, count 1",
@@ -364,6 +364,18 @@ const DIFFERENCES: [Difference; 45] = [
             let mut oracle = Oracle::on(Machine { has_xsave: true, xcr0: 7, ..Machine::new() });
             let text = failure(oracle.setup(&usual_setup()));
             format!("{text}; XCR0 {:#x}", oracle.guest_xcr0())
+        },
+    },
+    Difference {
+        name: "no TRUE words",
+        input: "setup, bit 55 of IA32_VMX_BASIC (MSR 0x480) clear, bits 15 and 16 in allowed-0 of 0x482 and not of 0x48E",
+        document: "refused 9",
+        original: || {
+            let mut oracle = Oracle::new();
+            let mut args = usual_setup();
+            args.vmx_basic &= !VMX_FLEX_CONTROLS;
+            let text = failure(oracle.setup(&args));
+            format!("{text}; {}", fields(&mut oracle, &[0x4002]))
         },
     },
     Difference {

@@ -5,7 +5,7 @@ use oracle::blocks::SETUP_NUMBERS;
 use oracle::generate::Random;
 use oracle::record::{self, Reference};
 use oracle::samples::{processors, usual_setup};
-use oracle::{Call, Capabilities, Oracle, Setup};
+use oracle::{Call, Capabilities, Oracle, Setup, VMX_FLEX_CONTROLS};
 
 /// A number of the arguments by its place, from 1 on in the order of the C interface's block, and its new value.
 type Change = (usize, u64);
@@ -14,11 +14,13 @@ const CHANGES: usize = 4;
 /// After the numbers of setup: the byte that fills the frames.
 const FILL: usize = SETUP_NUMBERS + 1;
 /// The capability MSRs, by ascending number.
-const CAPABILITIES: std::ops::Range<usize> = 25..38;
+const CAPABILITIES: std::ops::Range<usize> = 25..39;
+/// The first of them. Its bit 55 is set in every case: the original reads the TRUE words always.
+const VMX_BASIC: usize = CAPABILITIES.start;
 /// The pairs of pin, primary, secondary, exit and entry.
-const PAIRS: [usize; 5] = [34, 35, 33, 36, 37];
+const PAIRS: [usize; 5] = [35, 36, 34, 37, 38];
 /// RDTSCP, INVPCID, XSAVES.
-const FLAGS: [usize; 3] = [39, 40, 41];
+const FLAGS: [usize; 3] = [40, 41, 42];
 /// The fields of the five control words.
 const CONTROL_WORDS: [u32; 5] = [0x4000, 0x4002, 0x401E, 0x400C, 0x4012];
 
@@ -44,6 +46,7 @@ impl Arguments {
     /// and the original finds it later or not at all.
     fn answer(&self) -> Option<Result<Vec<u64>, u32>> {
         let setup = Setup::of_numbers(&self.numbers);
+        assert!(setup.vmx_basic & VMX_FLEX_CONTROLS != 0, "document 02 decides, and not the original");
         let mut oracle = Oracle::new();
         oracle.frames_mut().into_iter().for_each(|frame| frame.fill(self.fill));
         let outcome = oracle.setup(&setup).map_err(|failure| number_of(Call::Setup, &failure));
@@ -131,6 +134,7 @@ pub fn list(random: &mut Random) -> List {
     let zeros = Arguments { numbers: [0; SETUP_NUMBERS], fill: 0 };
     let mut setups = Setups { list: List::default(), now: zeros.clone(), good: zeros };
     let usual = usual_setup();
+    setups.add(&[(VMX_BASIC, usual.vmx_basic)]);
     setups.add_all(&usual);
     let any = Setup { capabilities: usual.capabilities.clone(), ..random.setup() };
     setups.add_all(&any);

@@ -2,17 +2,19 @@
 """Prints the two tables of docs/TRUST.md.
 
 Usage: tools/trust.py [--list] (in the repository's root). The first table counts what must be read: the definitions in specs/ that the contracts of
-the exported functions name, and those that they name in turn, and so for the statement over every list of calls. The second has each library crate's
-functions and lines. Lines are those with content; blank ones and comments do not count. With --list it prints the definitions of the first table.
+the exported functions name, and those that they name in turn, and so for the statement over every list of calls and for those on capability words. The
+second has each library crate's functions and lines. Lines are those with content; blank ones and comments do not count. With --list it prints the definitions of the first table.
 """
 import os
 import re
 import sys
 
 EXPORTS = "crates/x86_vcpu/src"
-STATEMENTS = ["crates/calls/specs/DemandThree.antt", "crates/calls/specs/Contracts.antt"]
-# What the statement over lists judges and so does not rest on: the steps of a session, and what it says nothing of (frames, the words of an answer).
-JUDGED = {"queueEvent", "injectInterrupt", "entry", "writeField", "setRegister", "apicValue", "setupOf", "exitReport", "ioBitmapSet", "msrBitmapSet", "answerWords"}
+LISTS = ["crates/calls/specs/DemandThree.antt", "crates/calls/specs/Contracts.antt"]
+CAPABILITY_WORDS = ["crates/calls/specs/CapabilityWords.antt"]
+# What the statements judge and so do not rest on: setup; over lists the other steps of a session too, and what is said nothing of (the words of an answer).
+SETUP = {"setupOf", "ioBitmapSet", "msrBitmapSet"}
+STEPS = SETUP | {"queueEvent", "injectInterrupt", "entry", "writeField", "setRegister", "apicValue", "exitReport", "answerWords"}
 # Files that tools/vmcs_names.py and tools/exit_reasons.py write.
 GENERATED = re.compile(r"/Names/|/(Named|VmxExitReason|ExitReasons)\.antt$")
 
@@ -130,16 +132,16 @@ def exports():
     return reading, functions
 
 
-def statements():
-    """What the statement over every list of calls names, and that its steps are the contracts."""
-    reading = Reading(JUDGED)
-    for path in STATEMENTS:
+def statements(paths, judged):
+    """What the statements of some files name."""
+    reading = Reading(judged)
+    for path in paths:
         crate, rest = re.match(r"crates/(\w+)/specs/(.*)\.antt", path).groups()
         module = reading.module(crate, rest)
         for number in range(len(module.blocks)):
             reading.add(module, number)
-    if reading.stopped != JUDGED:
-        raise SystemExit("not named by the statement: %s" % ", ".join(sorted(JUDGED - reading.stopped)))
+    if reading.stopped != judged:
+        raise SystemExit("not named by the statement: %s" % ", ".join(sorted(judged - reading.stopped)))
     return reading
 
 
@@ -159,9 +161,9 @@ def crate_row(name):
 
 
 def main():
-    (contracts, functions), lists = exports(), statements()
+    (contracts, functions), lists, words = exports(), statements(LISTS, STEPS), statements(CAPABILITY_WORDS, SETUP)
     if "--list" in sys.argv:
-        for reading in (contracts, lists):
+        for reading in (contracts, lists, words):
             for path, number in sorted(reading.blocks):
                 print(path, reading.modules[path].blocks[number][0].strip())
             print("types:", *sorted("%s::%s" % each for each in reading.types), "\n")
@@ -169,6 +171,7 @@ def main():
     print("| to believe | definitions | lines | generated names | types of the code | in all |\n|---|---|---|---|---|---|")
     print(contracts.row("the contracts of the %d exported functions" % functions))
     print(lists.row("`whole-list`, and that its steps are the contracts"))
+    print(words.row("`not-looked-at` and `older-board`"))
     crates = [line.split(":")[0] for line in open("crates.txt") if re.match(r"[a-z0-9_]+:", line)]
     rows = [crate_row(name) for name in crates if not os.path.exists(f"crates/{name}/src/main.rt")]
     print("\n| crate | functions | code | definitions | proofs |\n|---|---|---|---|---|")

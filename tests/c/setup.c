@@ -299,9 +299,12 @@ static void model_setup(void)
 
 static void once(void)
 {
-    size_t length = below(64) ? N : N - 1, blocks = below(64) ? BLOCK : BLOCK - 1 + 2 * below(2), a = below(64) ? FRAME : FRAME - 1;
+    size_t length = below(64) ? N : N - 1, blocks = below(64) ? BLOCK : BLOCK - 1 + 2 * below(2), sizes[3] = {FRAME, FRAME, FRAME};
+    int short_frame = below(64) == 0;
     uint32_t number, model;
 
+    if (short_frame)
+        sizes[below(3)]--;
     any_record(r);
     any_block(block);
     any_frames();
@@ -309,17 +312,17 @@ static void once(void)
     memcpy(again, r, N);
     memcpy(copies, frames, sizeof frames);
     memcpy(frames_again, frames, sizeof frames);
-    model = !lawful(s, length) || blocks != BLOCK || !flags_valid() || a != FRAME ? 2 : model_number(s, block);
+    model = !lawful(s, length) || blocks != BLOCK || !flags_valid() || short_frame ? 2 : model_number(s, block);
     if (model == 0)
         model_setup();
-    number = vcpu_setup(r, length, block, blocks, frames[0], a, frames[1], FRAME, frames[2], FRAME);
+    number = vcpu_setup(r, length, block, blocks, frames[0], sizes[0], frames[1], sizes[1], frames[2], sizes[2]);
     CHECK(number == model);
     CHECK(memcmp(r, s, N) == 0);
     CHECK(memcmp(frames, copies, sizeof frames) == 0);
     counts[has_true_words(block)][number]++;
     /* two blocks that differ where setup does not look get the same */
     any_unused(block);
-    CHECK(vcpu_setup(again, length, block, blocks, frames_again[0], a, frames_again[1], FRAME, frames_again[2], FRAME) == number);
+    CHECK(vcpu_setup(again, length, block, blocks, frames_again[0], sizes[0], frames_again[1], sizes[1], frames_again[2], sizes[2]) == number);
     CHECK(memcmp(again, r, N) == 0);
     CHECK(memcmp(frames_again, frames, sizeof frames) == 0);
 }

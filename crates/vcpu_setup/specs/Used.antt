@@ -1,4 +1,4 @@
--- What setup looks at of the capability MSRs (document 02, N4). Assumes nothing.
+-- What setup looks at of the capability MSRs (document 02, N4; SDM 3D, A.1 and A.2). Assumes nothing.
 use mathlib.Core.Path.{_≡_}
 use mathlib.Core.Bool.{true, false}
 use Rattle.bits.specs.Words.{bit, low32}

@@ -16,4 +16,15 @@ pairs-of-spec =
     (λ c κs. search needs)
     (λ c κs. search needs)
     (λ c κs. search needs)
-    (λ c. cc))
+    (λ c.
+    rw (
+      c .before .before .before .before .before .before .before .halves-of .ensures,
+      c .before .before .before .before .before .before .before .before .word-used .ensures,
+      c .before .before .before .before .before .halves-of2 .ensures,
+      c .before .before .before .before .before .before .word-used2 .ensures,
+      c .before .before .before .before .halves-of3 .ensures,
+      c .before .before .halves-of4 .ensures,
+      c .before .before .before .word-used3 .ensures,
+      c .halves-of5 .ensures,
+      c .before .word-used4 .ensures,
+    )))

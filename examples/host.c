@@ -1,9 +1,10 @@
 /*
  * A small host, with the processor played by arrays. It does what a hypervisor does around the core: it makes a session, sets it up from the processor's
  * capability words (and shows words that are refused, those of an older board among them), edits intercepts, with the trap sheet before and after, and queues
- * events; for each exit it enters the guest, carries fields and registers to the processor and back, reports the exit, and does what the core answers. After each
- * call it writes to the processor the fields that the header names and no others; at each entry all 154 are compared, and those in which processor and record
- * differ are counted. Arrays refuse no entry: examples/emulated is a host on processors that do, with all that the header's section "What the host does" says.
+ * events; for each exit it enters the guest, carries fields and registers to the processor and back, reports the exit (one report is tried first), and does what
+ * the core answers. After each call it writes to the processor the fields that the header names and no others; at each entry all 154 are compared, and those in
+ * which processor and record differ are counted. Arrays refuse no entry: examples/emulated is a host on processors that do, with all that the header's section
+ * "What the host does" says.
  */
 #include "x86_vcpu.h"
 
@@ -339,20 +340,16 @@ static void act(const uint64_t *answer)
     }
 }
 
-/* Hands the block in, carries what the report changed, and acts. */
-static void hand_in(const char *what)
+static void print_answer(const char *what, uint32_t number, const uint64_t *answer)
 {
     static const char *const names[] = {"Nothing", "Hypercall", "IoRead", "IoWrite", "SystemDown", "ExternalInterrupt",
                                         "SysRegRead", "SysRegWrite", "ApicRead", "ApicWrite", "Halt", "FailEntry"};
-    uint64_t answer[VCPU_ANSWER_WORDS];
-    uint32_t number = vcpu_exit_report(record, sizeof record, report, sizeof report, answer);
     unsigned i, last = 0;
 
     if (number) {
         printf("%s: refused %" PRIu32 "\n", what, number);
         return;
     }
-    carry_report();
     for (i = 1; i < VCPU_ANSWER_WORDS; i++)
         if (answer[i])
             last = i;
@@ -360,7 +357,32 @@ static void hand_in(const char *what)
     for (i = 1; i <= last; i++)
         printf(" 0x%" PRIX64, answer[i]);
     putchar('\n');
+}
+
+/* Hands the block in, carries what the report changed, and acts. */
+static void hand_in(const char *what)
+{
+    uint64_t answer[VCPU_ANSWER_WORDS];
+    uint32_t number = vcpu_exit_report(record, sizeof record, report, sizeof report, answer);
+
+    print_answer(what, number, answer);
+    if (number)
+        return;
+    carry_report();
     act(answer);
+}
+
+/* Tries the report before it is handed in. The answer is one at which the host leaves the record as the report left it, so that it is what the trial showed. */
+static void try_and_hand_in(const char *what)
+{
+    static uint8_t shown[VCPU_RECORD_LENGTH];
+    uint64_t answer[VCPU_ANSWER_WORDS];
+    uint32_t number = vcpu_try_exit_report(record, sizeof record, shown, sizeof shown, report, sizeof report, answer);
+
+    printf("trial of ");
+    print_answer(what, number, answer);
+    hand_in(what);
+    printf("the record and the one that the trial showed: %s\n", memcmp(record, shown, sizeof record) ? "they differ" : "the same");
 }
 
 /* Up to an exit and its report. Neither entry nor exit loads XCR0: the host has put the guest's there, and puts back its own. */
@@ -419,14 +441,14 @@ static void prepare(void)
     print_sheet("after these edits");
 }
 
-/* A report of a reason that no processor gives is refused, and the session runs on; the right report follows. */
+/* A report of a reason that no processor gives is refused, and the session runs on; the right report follows, tried first. */
 static void report_twice(const struct exit *e)
 {
     run_until(e);
     put(report, VCPU_REPORT_REASON, 4, 65);
     hand_in("reason 65");
     fill_report();
-    hand_in(e->what);
+    try_and_hand_in(e->what);
 }
 
 static void print_counts(void)

@@ -5,7 +5,7 @@
  * nothing: every buffer and result keeps its bytes. Numbers are tested in the order that each function's comment gives.
  *
  * A buffer is a pointer, which is not null, and its length in bytes. A result goes through a pointer that is not null and is aligned
- * for its type. No two buffers or results of one call overlap, and nobody else writes them during the call.
+ * for its type. No two buffers or results of one call overlap, the first and second buffers of a trial neither, and nobody else writes them during the call.
  *
  * The functions keep nothing between calls and allocate nothing. Of the program that the archive is linked into they need memcpy,
  * memmove and memset. Their code uses the XMM registers: a host that leaves the guest's in the processor saves them before a call
@@ -84,6 +84,8 @@ extern "C" {
 #define VCPU_REFUSED_INDEX 23
 /* Trap sheets: the output is shorter than the sheet. */
 #define VCPU_REFUSED_ROOM 24
+/* Trials: a second buffer has another length than the first that it stands for. */
+#define VCPU_REFUSED_SHOWN 25
 
 /* ---- Sizes ---- */
 
@@ -629,6 +631,34 @@ uint32_t vcpu_set_msr_intercept_of_range(uint8_t *frame, size_t length, uint32_t
 uint32_t vcpu_trap_sheet(const uint8_t *a, size_t a_length, const uint8_t *b, size_t b_length, const uint8_t *msr, size_t msr_length,
                          uint8_t *output, size_t output_length, uint64_t *length);
 
+/* ---- Trials ----
+ * What a call would do. vcpu_try_X answers what vcpu_X would answer (vcpu_try_.._intercept.. what vcpu_set_.._intercept.. would), and shows in second buffers, which the
+ * caller lends, what the call would leave in the first ones.
+ * - The first buffers, record or frames, and the block are only read: the guest's own keep every byte. What the second ones held before does not matter.
+ * - Accepted (0): each second buffer holds, byte for byte, what the call would have left in the first that it stands for, and the results are the call's.
+ * - Refused: nothing is written, neither second buffers nor results.
+ * - Numbers, in this order: VCPU_REFUSED_BYTES exactly where the call answers it, in which the second buffers play no part; VCPU_REFUSED_SHOWN, a second buffer's
+ *   length is not that of its first; then the call's others, in its order. So a first record of another length is refused by VCPU_REFUSED_BYTES even where the second has
+ *   the same length, and a session in another phase with a second record too short by VCPU_REFUSED_SHOWN.
+ * - A trial changes no session: between calls any number of trials may be made, and the calls answer and leave what they would without them. What a trial of a report or
+ *   an entry shows is a record, on which calls and further trials work as on any other.
+ * - It shows what the core would do, and enters no guest: the host carries nothing of it to the processor.
+ */
+
+/* vcpu_exit_report and vcpu_entry, shown in a second record. */
+uint32_t vcpu_try_exit_report(const uint8_t *record, size_t length, uint8_t *shown, size_t shown_length, const uint8_t *block, size_t block_length,
+                              uint64_t *answer);
+uint32_t vcpu_try_entry(const uint8_t *record, size_t length, uint8_t *shown, size_t shown_length, uint64_t host_stack, uint8_t *resumed, uint8_t *event);
+
+/* vcpu_set_io_intercept_of_range, shown in a second A and a second B. Both are written, also where the edit leaves one of them as it is or count is 0. */
+uint32_t vcpu_try_io_intercept_of_range(const uint8_t *a, size_t a_length, const uint8_t *b, size_t b_length, uint8_t *shown_a, size_t shown_a_length,
+                                        uint8_t *shown_b, size_t shown_b_length, uint32_t port_base, uint32_t count, uint8_t intercept);
+
+/* vcpu_set_read_intercept, vcpu_set_write_intercept and vcpu_set_msr_intercept_of_range, shown in a second MSR frame. */
+uint32_t vcpu_try_read_intercept(const uint8_t *frame, size_t length, uint8_t *shown, size_t shown_length, uint32_t msr, uint8_t intercept);
+uint32_t vcpu_try_write_intercept(const uint8_t *frame, size_t length, uint8_t *shown, size_t shown_length, uint32_t msr, uint8_t intercept);
+uint32_t vcpu_try_msr_intercept_of_range(const uint8_t *frame, size_t length, uint8_t *shown, size_t shown_length, uint32_t msr, uint8_t intercept);
+
 /* ---- Stack ----
  * The bytes of stack that each call needs at most: those below the caller's stack pointer, the return address and the red zone among them, the caller's
  * arguments not. Measured over accepted and refused calls (tests/c/stack.c) and rounded up to a multiple of 64, with some to spare. The host's memcpy, memmove and
@@ -656,7 +686,13 @@ uint32_t vcpu_trap_sheet(const uint8_t *a, size_t a_length, const uint8_t *b, si
     F(vcpu_set_read_intercept, 128)         \
     F(vcpu_set_write_intercept, 128)        \
     F(vcpu_set_msr_intercept_of_range, 128) \
-    F(vcpu_trap_sheet, 512)
+    F(vcpu_trap_sheet, 512)                 \
+    F(vcpu_try_exit_report, 512)            \
+    F(vcpu_try_entry, 192)                  \
+    F(vcpu_try_io_intercept_of_range, 192)  \
+    F(vcpu_try_read_intercept, 192)         \
+    F(vcpu_try_write_intercept, 192)        \
+    F(vcpu_try_msr_intercept_of_range, 192)
 
 #ifdef __cplusplus
 }

@@ -1,5 +1,5 @@
 #!/usr/bin/env python3
-"""What the programs `edges`, `edges_sessions` and `edges_setup` must print: usage tools/edges.py PROGRAM > crates/PROGRAM/stdout.
+"""What the programs `edges`, `edges_sessions`, `edges_setup` and `edges_trials` must print: usage tools/edges.py PROGRAM > crates/PROGRAM/stdout.
 
 Each line is a call of an exported function, its arguments, and the answer that documents 01 and 02 give: the edges of "Worked by hand", and each number of "The operations
 and their numbers" at its boundary, the last call that is accepted and the first that is refused; and the edges of the requests. The answers are written out here, call by call, but for the words of
@@ -465,10 +465,94 @@ def sheets():
         edge("trap_sheet, reads", msr, other, room, answer)
 
 
+SHOWN = Refused(25)
+
+
+def tried_entries():
+    """N5. A phase, the lengths of the record and of the second one: launch or resume, what is done with the event, phase and entries shown."""
+    name = "try_entry"
+    for phase in range(6):
+        edge(name, phase, 1485, 1485, [LAUNCH, NONE, 2, 1] if phase == 1 else Refused(2 if phase == 5 else 1))
+    for length in [0, 1484, 1486]:
+        edge(name, 1, 1485, length, SHOWN)
+    # 25 before 1, and 2 before 25
+    edge(name, 0, 1485, 1484, SHOWN)
+    edge(name, 5, 1485, 1484, Refused(2))
+    # 25 before 22
+    edge("try_entry, the last", 1485, Refused(22))
+    edge("try_entry, the last", 1484, SHOWN)
+    # another length of the first is 2, also where the second has it too
+    edge(name, 1, 1484, 1485, Refused(2))
+    edge(name, 1, 1484, 1484, Refused(2))
+    edge(name, 1, 1486, 1486, Refused(2))
+
+
+def tried_reports():
+    """N5. A phase, a reason, the lengths of the record, of the second one and of the block: the answer's number (10 is Halt), and the phase shown."""
+    name = "try_exit_report"
+    edge(name, 1, 10, 1485, 1485, 244, Refused(1))
+    edge(name, 2, 10, 1485, 1485, 244, [0, 1])
+    edge(name, 2, 12, 1485, 1485, 244, [10, 1])
+    edge(name, 3, 10, 1485, 1485, 244, Refused(1))
+    edge(name, 2, 65, 1485, 1485, 244, Refused(14))
+    edge(name, 2, 10, 1485, 1484, 244, SHOWN)
+    edge(name, 2, 10, 1485, 1486, 244, SHOWN)
+    # 25 before 1 and 14
+    edge(name, 1, 10, 1485, 1484, 244, SHOWN)
+    edge(name, 2, 65, 1485, 1484, 244, SHOWN)
+    # 2 of the block, and of the record, before 25
+    edge(name, 2, 0, 1485, 1485, 243, Refused(2))
+    edge(name, 2, 0, 1485, 1484, 243, Refused(2))
+    edge(name, 2, 10, 1484, 1484, 244, Refused(2))
+    edge(name, 2, 10, 1484, 1485, 244, Refused(2))
+
+
+def tried_ports():
+    """N5. Ports, the yes/no byte and the lengths of the second A and B: byte 192 of A and byte 4,095 of B shown, both of them whichever is edited."""
+    name = "try_io_intercept_of_range"
+    edge(name, 0x604, 1, 1, 4096, 4096, [0x10, 0])
+    edge(name, 65535, 1, 1, 4096, 4096, [0, 0x80])
+    edge(name, 65535, 2, 1, 4096, 4096, Refused(10))
+    edge(name, 2**32 - 1, 0, 1, 4096, 4096, [0, 0])
+    edge(name, 0x604, 1, 2, 4096, 4096, Refused(2))
+    # 25 of either, before 10 and after 2
+    for base, count, intercept, length, answer in [
+        (0x604, 1, 1, 4095, SHOWN),
+        (0x604, 1, 1, 4097, SHOWN),
+        (65535, 2, 1, 4095, SHOWN),
+        (2**32 - 1, 0, 1, 4097, SHOWN),
+        (0x604, 1, 2, 4095, Refused(2)),
+    ]:
+        edge(name, base, count, intercept, length, 4096, answer)
+        edge(name, base, count, intercept, 4096, length, answer)
+    # another length of the first, which the second has too
+    edge("try_io_intercept_of_range, A and B of", 4095, 4096, Refused(2))
+    edge("try_io_intercept_of_range, A and B of", 4096, 4097, Refused(2))
+
+
+def tried_msrs():
+    """N5. An MSR, the yes/no byte, the lengths of the frame and of the second one: bytes 1,040 and 3,088 shown."""
+    names = ["try_read_intercept", "try_write_intercept", "try_msr_intercept_of_range"]
+    here = [[1, 0], [0, 1], [1, 1]]
+    for msr, intercept, first, second, answer in [
+        (0xC0000080, 1, 4096, 4096, None),
+        (0x2000, 1, 4096, 4096, Refused(11)),
+        (0xC0000080, 2, 4096, 4096, Refused(2)),
+        (0xC0000080, 1, 4096, 4095, SHOWN),
+        (0x2000, 1, 4096, 4097, SHOWN),
+        (0xC0000080, 2, 4096, 4095, Refused(2)),
+        (0xC0000080, 1, 4095, 4095, Refused(2)),
+        (0x2000, 1, 4095, 4096, Refused(2)),
+    ]:
+        for name, bits in zip(names, here):
+            edge(name, msr, intercept, first, second, bits if answer is None else answer)
+
+
 PROGRAMS = {
     "edges": [ports, msrs, registers, fields, controls, lengths, addresses, sheets],
     "edges_sessions": [records, queues, entries, apic_values, reports, control_registers],
     "edges_setup": [setups, pairs, xcr0],
+    "edges_trials": [tried_entries, tried_reports, tried_ports, tried_msrs],
 }
 for part in PROGRAMS[sys.argv[1]]:
     part()

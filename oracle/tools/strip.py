@@ -4,7 +4,7 @@ changes. For runs and for mutants, with overflow checks on; it proves nothing.
 
 usage: strip.py REPOSITORY OUT
 
-The kit's crates io, os, libc and check are replaced by those of tools/kit. The crate x86_vcpu is also built as a shared library.
+The kit's crates io, os, bytes, libc and check are replaced by those of tools/kit. The crate x86_vcpu is also built as a shared library.
 """
 
 import re
@@ -79,7 +79,7 @@ def manifest(name, crates):
 def strip_all(repository, out):
     """The whole repository; returns the crates with their dependencies."""
     crates = dependencies(repository)
-    crates.update({"libc": [], "check": [], "io": ["libc"], "os": []})
+    crates.update({"libc": [], "check": [], "io": ["libc"], "os": [], "bytes": []})
     out.mkdir(parents=True, exist_ok=True)
     members = []
     for name in crates:

@@ -44,4 +44,30 @@ extern "C" {
         output_length: usize,
         length: *mut u64,
     ) -> u32;
+    pub fn vcpu_try_exit_report(
+        record: *const u8,
+        length: usize,
+        shown: *mut u8,
+        shown_length: usize,
+        block: *const u8,
+        block_length: usize,
+        answer: *mut u64,
+    ) -> u32;
+    pub fn vcpu_try_entry(record: *const u8, length: usize, shown: *mut u8, shown_length: usize, host_stack: u64, resumed: *mut u8, event: *mut u8) -> u32;
+    pub fn vcpu_try_io_intercept_of_range(
+        a: *const u8,
+        a_length: usize,
+        b: *const u8,
+        b_length: usize,
+        shown_a: *mut u8,
+        shown_a_length: usize,
+        shown_b: *mut u8,
+        shown_b_length: usize,
+        port_base: u32,
+        count: u32,
+        intercept: u8,
+    ) -> u32;
+    pub fn vcpu_try_read_intercept(frame: *const u8, length: usize, shown: *mut u8, shown_length: usize, msr: u32, intercept: u8) -> u32;
+    pub fn vcpu_try_write_intercept(frame: *const u8, length: usize, shown: *mut u8, shown_length: usize, msr: u32, intercept: u8) -> u32;
+    pub fn vcpu_try_msr_intercept_of_range(frame: *const u8, length: usize, shown: *mut u8, shown_length: usize, msr: u32, intercept: u8) -> u32;
 }

@@ -2,6 +2,9 @@
 //!
 //! A [`Session`] holds the record's bytes and [`Frames`] the three intercept frames. A refused call answers its [`Refusal`] and changes nothing.
 //!
+//! A trial (`try_..`) answers what its call would answer, with the session or the frames that the call would leave, and changes neither. It is of the core
+//! alone: the host carries nothing of it to the processor.
+//!
 //! The host carries fields and registers between the session and the processor, as `include/x86_vcpu.h` says under "What the host does": after
 //! [`Session::setup`] the fields of [`Field::SETUP`], before an entry all of [`Session::registers`] and [`Session::xcr0`], and what a processor asks beside it.
 //!
@@ -91,6 +94,67 @@ impl Frames {
         outcome(unsafe { ffi::vcpu_set_msr_intercept_of_range(self.msr.0.as_mut_ptr(), FRAME_LENGTH, msr, u8::from(intercept)) })
     }
 
+    /// What [`Frames::set_io_intercept_of_range`] would leave; these frames stay as they are. The MSR bitmaps are a copy.
+    ///
+    /// # Errors
+    ///
+    /// [`Refusal::Port`].
+    pub fn try_io_intercept_of_range(&self, port_base: u32, count: u32, intercept: bool) -> Result<Frames, Refusal> {
+        let mut shown = Frames { msr: self.msr.clone(), ..Frames::new() };
+        let (a, b, next_a, next_b) = (&self.io_a.0, &self.io_b.0, &mut shown.io_a.0, &mut shown.io_b.0);
+        outcome(unsafe {
+            ffi::vcpu_try_io_intercept_of_range(
+                a.as_ptr(),
+                a.len(),
+                b.as_ptr(),
+                b.len(),
+                next_a.as_mut_ptr(),
+                next_a.len(),
+                next_b.as_mut_ptr(),
+                next_b.len(),
+                port_base,
+                count,
+                u8::from(intercept),
+            )
+        })?;
+        Ok(shown)
+    }
+
+    /// What [`Frames::set_read_intercept`] would leave; these frames stay as they are. The I/O bitmaps are copies.
+    ///
+    /// # Errors
+    ///
+    /// [`Refusal::Msr`].
+    pub fn try_read_intercept(&self, msr: u32, intercept: bool) -> Result<Frames, Refusal> {
+        self.try_msr(ffi::vcpu_try_read_intercept, msr, intercept)
+    }
+
+    /// What [`Frames::set_write_intercept`] would leave; these frames stay as they are. The I/O bitmaps are copies.
+    ///
+    /// # Errors
+    ///
+    /// [`Refusal::Msr`].
+    pub fn try_write_intercept(&self, msr: u32, intercept: bool) -> Result<Frames, Refusal> {
+        self.try_msr(ffi::vcpu_try_write_intercept, msr, intercept)
+    }
+
+    /// What [`Frames::set_msr_intercept_of_range`] would leave; these frames stay as they are. The I/O bitmaps are copies.
+    ///
+    /// # Errors
+    ///
+    /// [`Refusal::Msr`].
+    pub fn try_msr_intercept_of_range(&self, msr: u32, intercept: bool) -> Result<Frames, Refusal> {
+        self.try_msr(ffi::vcpu_try_msr_intercept_of_range, msr, intercept)
+    }
+
+    /// A trial of an edit of the MSR bitmaps.
+    fn try_msr(&self, trial: MsrTrial, msr: u32, intercept: bool) -> Result<Frames, Refusal> {
+        let mut shown = Frames { io_a: self.io_a.clone(), io_b: self.io_b.clone(), ..Frames::new() };
+        let (frame, next) = (&self.msr.0, &mut shown.msr.0);
+        outcome(unsafe { trial(frame.as_ptr(), frame.len(), next.as_mut_ptr(), next.len(), msr, u8::from(intercept)) })?;
+        Ok(shown)
+    }
+
     /// Writes the trap sheet, a text that lists all that the frames intercept, at the start of `output`, and answers its length in bytes. Bytes past it are
     /// kept.
     ///
@@ -121,6 +185,9 @@ impl Frames {
         Ok(usize::try_from(length).unwrap_or_else(|_| unknown(length)))
     }
 }
+
+/// MSR bitmaps, second MSR bitmaps, MSR, intercept.
+type MsrTrial = unsafe extern "C" fn(*const u8, usize, *mut u8, usize, u32, u8) -> u32;
 
 impl Default for Frames {
     fn default() -> Frames {
@@ -407,6 +474,32 @@ impl Session {
         let (block, mut words) = (report.to_bytes(), [0; 8]);
         outcome(unsafe { ffi::vcpu_exit_report(self.at(), RECORD_LENGTH, block.as_ptr(), block.len(), words.as_mut_ptr()) })?;
         Ok(Answer::of(words))
+    }
+
+    /// What [`Session::entry`] would answer, and the session that it would leave; this one stays as it is. The host makes no entry for it.
+    ///
+    /// # Errors
+    ///
+    /// [`Refusal::Phase`] (not ready), [`Refusal::Count`].
+    pub fn try_entry(&self, host_stack: u64) -> Result<(Entry, Session), Refusal> {
+        let (mut shown, mut resumed, mut event) = (Session([0; RECORD_LENGTH]), 0, 0);
+        outcome(unsafe {
+            ffi::vcpu_try_entry(self.0.as_ptr(), RECORD_LENGTH, shown.at(), RECORD_LENGTH, host_stack, &raw mut resumed, &raw mut event)
+        })?;
+        Ok((Entry { resumed: resumed == 1, event: Event::of(event) }, shown))
+    }
+
+    /// What [`Session::exit_report`] would answer, and the session that it would leave; this one stays as it is.
+    ///
+    /// # Errors
+    ///
+    /// Those of [`Session::exit_report`].
+    pub fn try_exit_report(&self, report: &Report) -> Result<(Answer, Session), Refusal> {
+        let (mut shown, block, mut words) = (Session([0; RECORD_LENGTH]), report.to_bytes(), [0; 8]);
+        outcome(unsafe {
+            ffi::vcpu_try_exit_report(self.0.as_ptr(), RECORD_LENGTH, shown.at(), RECORD_LENGTH, block.as_ptr(), block.len(), words.as_mut_ptr())
+        })?;
+        Ok((Answer::of(words), shown))
     }
 
     /// Brings the value of the APIC register that the guest reads.

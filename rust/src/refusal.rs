@@ -57,11 +57,13 @@ pub enum Refusal {
     Index = 23,
     /// The output is shorter than the trap sheet.
     Room = 24,
+    /// Trials: a second buffer has another length than the first that it stands for. The two are alike in every call of this crate.
+    Shown = 25,
 }
 
 impl Refusal {
     /// All refusals, by number from 1 on.
-    pub const ALL: [Refusal; 24] = [
+    pub const ALL: [Refusal; 25] = [
         Refusal::Phase,
         Refusal::Bytes,
         Refusal::Encoding,
@@ -86,6 +88,7 @@ impl Refusal {
         Refusal::Count,
         Refusal::Index,
         Refusal::Room,
+        Refusal::Shown,
     ];
 
     /// The number that the archive answers.
@@ -120,6 +123,7 @@ impl Refusal {
             Refusal::Count => "the count of entries is at its end",
             Refusal::Index => "the register's index is 4 or above 15",
             Refusal::Room => "the output is shorter than the trap sheet",
+            Refusal::Shown => "a second buffer has another length than the first",
         }
     }
 }

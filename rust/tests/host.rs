@@ -444,6 +444,98 @@ fn each_edit_sets_and_clears_its_own_bits() {
     assert_eq!(bits(&frames), [8, 12, 1, 3]);
 }
 
+/// A trial leaves the session as it was; the report then answers and leaves what the trial showed.
+#[test]
+fn a_trial_of_a_report_shows_what_the_report_does() {
+    let (mut session, _) = ready();
+    for reason in [1, 7, 10, 12, 18, 28, 30, 32, 55, 31, 0x8000_0021] {
+        session.entry(0).unwrap();
+        let mut exit = Report { interruption: 0x8000_0031, ..report(&session, reason) };
+        (exit.regs[0], exit.regs[1]) = (7, if reason == 31 { 0x802 } else { 0 });
+        let before = session.clone();
+        let (answer, shown) = session.try_exit_report(&exit).unwrap();
+        assert_eq!(session, before);
+        assert_ne!(shown, before);
+        assert_eq!((session.exit_report(&exit), &session), (Ok(answer), &shown));
+        if session.counts().phase == Phase::Waiting {
+            session.apic_value(0).unwrap();
+        }
+    }
+    assert_eq!(session.counts().phase, Phase::Ended);
+}
+
+#[test]
+fn a_trial_of_an_entry_shows_what_the_entry_does() {
+    let (mut session, _) = ready();
+    session.inject_interrupt(32).unwrap();
+    for event in [Event::Held, Event::Written, Event::None] {
+        let before = session.clone();
+        let (entry, shown) = session.try_entry(0x1000).unwrap();
+        assert_eq!((&session, entry.event), (&before, event));
+        assert_ne!(shown, before);
+        assert_eq!((session.entry(0x1000), &session), (Ok(entry), &shown));
+        session.exit_report(&report(&session, 7)).unwrap();
+    }
+}
+
+/// Calls and trials go on from what a trial shows, while the session stays where it is.
+#[test]
+fn a_trial_shows_a_session() {
+    let (session, _) = ready();
+    let before = session.clone();
+    let (_, mut running) = session.try_entry(0x1000).unwrap();
+    let (answer, next) = running.try_exit_report(&report(&running, 10)).unwrap();
+    assert_eq!((answer, next.counts().phase), (Answer::Nothing, Phase::Ready));
+    assert_eq!(next.read_field(VmcsHostNW::RSP), Ok(0x1000));
+    assert_eq!((running.exit_report(&report(&running, 10)), &running), (Ok(answer), &next));
+    assert_eq!(session, before);
+}
+
+fn frame_bytes(frames: &Frames) -> [&[u8; FRAME_LENGTH]; 3] {
+    [&frames.io_a.0, &frames.io_b.0, &frames.msr.0]
+}
+
+/// Both sides of each edit: ports of both frames, one that setup intercepts and no port; MSRs; and what is refused.
+#[test]
+fn a_trial_of_an_edit_shows_what_the_edit_does() {
+    type Trial = fn(&Frames) -> Result<Frames, Refusal>;
+    type Edit = fn(&mut Frames) -> Result<(), Refusal>;
+    let edits: [(Trial, Edit); 10] = [
+        (|f| f.try_io_intercept_of_range(0x7FFF, 2, true), |f| f.set_io_intercept_of_range(0x7FFF, 2, true)),
+        (|f| f.try_io_intercept_of_range(0x604, 1, false), |f| f.set_io_intercept_of_range(0x604, 1, false)),
+        (|f| f.try_io_intercept_of_range(u32::MAX, 0, true), |f| f.set_io_intercept_of_range(u32::MAX, 0, true)),
+        (|f| f.try_read_intercept(1, true), |f| f.set_read_intercept(1, true)),
+        (|f| f.try_write_intercept(0xC000_0080, true), |f| f.set_write_intercept(0xC000_0080, true)),
+        (|f| f.try_msr_intercept_of_range(0x800, false), |f| f.set_msr_intercept_of_range(0x800, false)),
+        (|f| f.try_io_intercept_of_range(65535, 2, true), |f| f.set_io_intercept_of_range(65535, 2, true)),
+        (|f| f.try_read_intercept(0x2000, true), |f| f.set_read_intercept(0x2000, true)),
+        (|f| f.try_write_intercept(0xC000_2000, true), |f| f.set_write_intercept(0xC000_2000, true)),
+        (|f| f.try_msr_intercept_of_range(0xBFFF_FFFF, true), |f| f.set_msr_intercept_of_range(0xBFFF_FFFF, true)),
+    ];
+    let (_, mut frames) = ready();
+    for (trial, edit) in edits {
+        let before = frames.clone();
+        let shown = trial(&frames);
+        assert!(frame_bytes(&frames) == frame_bytes(&before));
+        assert_eq!(edit(&mut frames), shown.as_ref().map(|_| ()).map_err(|refusal| *refusal));
+        assert!(frame_bytes(&frames) == frame_bytes(shown.as_ref().unwrap_or(&before)));
+    }
+}
+
+#[test]
+fn trials_are_refused_by_name() {
+    let (mut session, frames) = ready();
+    assert_eq!(session.try_exit_report(&Report::default()), Err(Refusal::Phase));
+    session.entry(0).unwrap();
+    assert_eq!(session.try_entry(0), Err(Refusal::Phase));
+    assert_eq!(session.try_exit_report(&report(&session, 65)), Err(Refusal::Reason));
+    assert_eq!(session.try_exit_report(&Report { cr0: 0x10, ..report(&session, 12) }), Err(Refusal::OwnedBits));
+    assert_eq!(frames.try_io_intercept_of_range(65535, 2, true).err(), Some(Refusal::Port));
+    assert_eq!(frames.try_read_intercept(0x2000, true).err(), Some(Refusal::Msr));
+    assert_eq!(frames.try_write_intercept(0xC000_2000, true).err(), Some(Refusal::Msr));
+    assert_eq!(frames.try_msr_intercept_of_range(0xBFFF_FFFF, true).err(), Some(Refusal::Msr));
+}
+
 #[test]
 fn kept_bytes_are_the_session() {
     let (mut session, _) = ready();
@@ -493,6 +585,27 @@ fn a_wrong_length_is_refused() {
     assert_eq!(number, Refusal::Bytes.number());
     let number = unsafe { ffi::vcpu_set_read_intercept(frame.as_mut_ptr(), FRAME_LENGTH - 1, 0, 1) };
     assert_eq!(number, Refusal::Bytes.number());
+}
+
+/// The wrapper's second buffers have the length of the first always; the archive refuses others: after 2, before 1, and nothing is written.
+#[test]
+fn a_second_buffer_of_another_length_is_refused() {
+    let (session, _) = ready();
+    let (record, mut none) = (*session.as_bytes(), *session.as_bytes());
+    none[0] = 5;
+    let (mut shown, block, mut answer) = ([0xA5; RECORD_LENGTH], Report::default().to_bytes(), [9; 8]);
+    let trials = [
+        (record, RECORD_LENGTH, Refusal::Phase),
+        (record, RECORD_LENGTH - 1, Refusal::Shown),
+        (none, RECORD_LENGTH - 1, Refusal::Bytes),
+        (none, RECORD_LENGTH, Refusal::Bytes),
+    ];
+    for (record, length, refusal) in trials {
+        let number = unsafe {
+            ffi::vcpu_try_exit_report(record.as_ptr(), record.len(), shown.as_mut_ptr(), length, block.as_ptr(), block.len(), answer.as_mut_ptr())
+        };
+        assert_eq!((number, shown, answer), (refusal.number(), [0xA5; RECORD_LENGTH], [9; 8]));
+    }
 }
 
 /// The wrong length comes before a short output, and neither result is written.

@@ -9,7 +9,7 @@
 #include <string.h>
 
 /* The bytes of each stack, what they are painted with, and how many of them a call's arguments take. */
-enum { SIZE = 16384, PAINT = 0xA5, ARGUMENTS = 4 * 8 };
+enum { SIZE = 16384, PAINT = 0xA5, ARGUMENTS = 6 * 8 };
 
 /* Not static, since the assembler names them. */
 #define STACK(name, most)             \
@@ -17,7 +17,10 @@ enum { SIZE = 16384, PAINT = 0xA5, ARGUMENTS = 4 * 8 };
     uint8_t stack_##name[SIZE] __attribute__((aligned(16)));
 VCPU_STACK(STACK)
 
-/* Calls the function on its stack, with the registers as they are. The last four of ten arguments are on the stack; a call with fewer copies other words. */
+/*
+ * Calls the function on its stack, with the registers as they are. The last five of eleven arguments are on the stack, and six words keep it aligned to 16; a call with fewer
+ * arguments copies other words.
+ */
 #define WRAPPER(name, most)                                 \
     __asm__(".text\n"                                       \
             ".globl __wrap_" #name "\n"                     \
@@ -25,6 +28,8 @@ VCPU_STACK(STACK)
             "pushq %rbx\n"                                  \
             "movq %rsp, %rbx\n"                             \
             "leaq stack_" #name " + 16384(%rip), %rsp\n"    \
+            "pushq 56(%rbx)\n"                              \
+            "pushq 48(%rbx)\n"                              \
             "pushq 40(%rbx)\n"                              \
             "pushq 32(%rbx)\n"                              \
             "pushq 24(%rbx)\n"                              \
@@ -49,6 +54,7 @@ int session_main(int argc, char **argv);
 int setup_main(int argc, char **argv);
 int report_main(int argc, char **argv);
 int trap_sheet_main(int argc, char **argv);
+int trials_main(int argc, char **argv);
 
 /* How far below the caller's stack pointer the calls changed a byte. */
 static unsigned deepest(const uint8_t *stack)
@@ -62,7 +68,7 @@ static unsigned deepest(const uint8_t *stack)
 
 /* The number of calls that each test makes. */
 static char name[] = "stack", fewest[] = "1000", few[] = "20000", some[] = "100000", many[] = "240000";
-static char *session[] = {name, many}, *setup[] = {name, few}, *report[] = {name, some}, *trap_sheet[] = {name, fewest};
+static char *session[] = {name, many}, *setup[] = {name, few}, *report[] = {name, some}, *trap_sheet[] = {name, fewest}, *trials[] = {name, some};
 
 int main(void)
 {
@@ -70,7 +76,7 @@ int main(void)
 
     for (i = 0; i < CALLS; i++)
         memset(calls[i].stack, PAINT, SIZE);
-    if (leaves_main() || session_main(2, session) || setup_main(2, setup) || report_main(2, report) || trap_sheet_main(2, trap_sheet))
+    if (leaves_main() || session_main(2, session) || setup_main(2, setup) || report_main(2, report) || trap_sheet_main(2, trap_sheet) || trials_main(2, trials))
         return 1;
     for (i = 0; i < CALLS; i++) {
         unsigned bytes = deepest(calls[i].stack);

@@ -73,4 +73,7 @@ impl Refusal {
 
     // The output is shorter than the sheet.
     pub const ROOM: u32 = 24;
+
+    // A trial's second buffer has another length than the first.
+    pub const SHOWN: u32 = 25;
 }

@@ -1,6 +1,6 @@
 -- Laws of port edits: what each number means, what each port's intercept is after an accepted edit, and that edits with no port in common commute.
 -- An edit of ports and one of MSRs are of different frames: neither definition mentions the other's, so there is no law to state. Assumes nothing.
-use mathlib.Core.Path.{_≡_, refl}
+use mathlib.Core.Path.{_≡_, refl, sym, _∙_}
 use mathlib.Core.Bool.{Bool, true, false, cond}
 use mathlib.Core.List.{List}
 use mathlib.Core.Logic.{_≢_, dite, _⊎_, inl, inr, ⊎-elim, _↔_}
@@ -53,6 +53,10 @@ module _ (la lb base count : ℕ) where
       (λ l. let e = accepted-some a b c (omega arith) in record { is-2 = not-2 a b (omega arith); is-10 = omega arith; is-0 = omega arith })))
       (λ b. let e = refused-b a b in record { is-2 = (λ _. inr b, λ _. e); is-10 = omega arith; is-0 = omega arith }))
       (λ a. let e = refused-a a in record { is-2 = (λ _. inl a, λ _. e); is-10 = omega arith; is-0 = omega arith })
+
+  -- what is known where an edit is accepted
+  pub port-accepted : {n : ℕ} → n ≡ portRefusal la lb base count → n ≡ 0 → (la ≡ 4096) × (lb ≡ 4096) × (0 < count → base + count - 1 ≤ 65535)
+  port-accepted asked none = numbers .is-0 .0 (sym asked ∙ none)
 
 -- ---- the ports from base to below end, as bits of A and as bits of B
 

@@ -8,7 +8,7 @@ ghost use lib.ListN.{length};
 ghost use denote.Ref.{ptr};
 ghost use Rattle.bits.specs.Words.{withBit};
 ghost use Rattle.structs.specs.Bitmap.{fullByte, setBits};
-ghost use Rattle.structs.specs.Frames.{setPorts, editPorts, quarterOf, msrRefusal, editMsrs};
+ghost use Rattle.structs.specs.Frames.{setPorts, portRefusal, editPorts, quarterOf, msrRefusal, editMsrs};
 ghost use Rattle.structs.specs.PortPart.{partFrom, portPart};
 ghost use Rattle.structs.specs.EPTPointer.{eptPointer};
 use definitions::Refusal;
@@ -134,6 +134,25 @@ fn set_ports(a: &mut [u8], b: &mut [u8], from: usize, count: usize, v: bool)
     set_bits(b, from - from_a, to - to_a, v);
 }
 
+// The refusal of an edit of count ports from port_base on, in frames of these lengths, or 0.
+pub fn port_refusal(len_a: usize, len_b: usize, port_base: u32, count: u32) -> u32
+    ensures { λ r. ⌜ r ≡ portRefusal «len_a» «len_b» «port_base» count ⌝ }
+{
+    if len_a != FRAME_SIZE {
+        return Refusal::BYTES;
+    }
+    if len_b != FRAME_SIZE {
+        return Refusal::BYTES;
+    }
+    if count == 0 {
+        return 0;
+    }
+    if PORTS < port_base as usize + count as usize {
+        return Refusal::PORT;
+    }
+    0
+}
+
 // Sets the intercepts of count ports from port_base on (IOBitmap::set_intercept_of_range).
 pub fn set_intercept_of_range(
     a: &mut [u8],
@@ -144,21 +163,14 @@ pub fn set_intercept_of_range(
 ) -> u32
     ensures { λ r. ⌜ record { refusal = r; a = now (a .exit); b = now (b .exit) } ≡ editPorts (now (a .entry)) (now (b .entry)) «port_base» count intercept ⌝ }
 {
-    if a.len() != FRAME_SIZE {
-        return Refusal::BYTES;
-    }
-    if b.len() != FRAME_SIZE {
-        return Refusal::BYTES;
+    let refusal = port_refusal(a.len(), b.len(), port_base, count);
+    if refusal != 0 {
+        return refusal;
     }
     if count == 0 {
         return 0;
     }
-    let from = port_base as usize;
-    let ports = count as usize;
-    if PORTS < from + ports {
-        return Refusal::PORT;
-    }
-    set_ports(a, b, from, ports, intercept);
+    set_ports(a, b, port_base as usize, count as usize, intercept);
     0
 }
 
@@ -167,16 +179,11 @@ pub fn set_intercept_of_range(
 pub fn set_intercept(a: &mut [u8], b: &mut [u8], port: u32, intercept: bool) -> u32
     ensures { λ r. ⌜ record { refusal = r; a = now (a .exit); b = now (b .exit) } ≡ editPorts (now (a .entry)) (now (b .entry)) port 1 intercept ⌝ }
 {
-    if a.len() != FRAME_SIZE {
-        return Refusal::BYTES;
-    }
-    if b.len() != FRAME_SIZE {
-        return Refusal::BYTES;
+    let refusal = port_refusal(a.len(), b.len(), port, 1);
+    if refusal != 0 {
+        return refusal;
     }
     let p = port as usize;
-    if PORTS <= p {
-        return Refusal::PORT;
-    }
     let part = port_part(&a[..], &b[..], port);
     let byte = with_bit((p % 8) as u8, intercept, part[0]);
     if p < FIRST_PORT_OF_B {
@@ -203,8 +210,8 @@ fn quarter(access: Access, msr: usize) -> usize
     }
 }
 
-// The refusal of an edit of the MSRs from..to, or 0.
-fn msr_refusal(len: usize, from: usize, to: usize) -> u32
+// The refusal of an edit of the MSRs from..to, in a frame of this length, or 0.
+pub fn msr_refusal(len: usize, from: usize, to: usize) -> u32
     ensures { λ r. ⌜ r ≡ msrRefusal len from to ⌝ }
 {
     if len != FRAME_SIZE {

@@ -5,7 +5,7 @@ ghost use mathlib.Core.Path.{_≡_};
 ghost use Prim.Native.Nat.{_<_, _≤_, _-_};
 ghost use Rattle.bits.specs.Words.{withBit};
 ghost use Rattle.vcpu_session.specs.Session.{LAST_ENTRY};
-ghost use Rattle.vcpu_events.specs.Entry.{isHeld, progressAfter};
+ghost use Rattle.vcpu_events.specs.Entry.{isHeld, progressAfter, injectionNumber};
 ghost use mathlib.Core.Bool.{cond};
 use vcpu_session::Phase;
 use vcpu_session::Progress;
@@ -90,5 +90,16 @@ pub fn progress_after(p: Progress, injection: Injection) -> Progress
             next
         }
         Injection::Written => next,
+    }
+}
+
+// The number of what an entry did with the front of the queue.
+pub fn injection_number(injection: Injection) -> u8
+    ensures { λ r. ⌜ r ≡ injectionNumber injection ⌝ }
+{
+    match injection {
+        Injection::Empty => 0,
+        Injection::Held => 1,
+        Injection::Written => 2,
     }
 }

@@ -59,6 +59,21 @@ functions! {
     "vcpu_get_ptw_info" vcpu_get_ptw_info(*const u8, usize, *mut u64, *mut u8, *mut u8, *mut u32);
     // record, host EFER, address, linear address
     "vcpu_gla2gva" vcpu_gla2gva(*const u8, usize, u64, u64, *mut u64);
+    // record, second record, report, eight words of answer
+    "vcpu_try_exit_report"
+    vcpu_try_exit_report(*const u8, usize, *mut u8, usize, *const u8, usize, *mut u64);
+    // record, second record, host stack, resumed, event
+    "vcpu_try_entry" vcpu_try_entry(*const u8, usize, *mut u8, usize, u64, *mut u8, *mut u8);
+    // I/O A, I/O B, second I/O A, second I/O B, first port, count, intercept
+    "vcpu_try_io_intercept_of_range"
+    vcpu_try_io_intercept_of_range(
+        *const u8, usize, *const u8, usize, *mut u8, usize, *mut u8, usize, u32, u32, u8,
+    );
+    // MSR frame, second MSR frame, MSR, intercept
+    "vcpu_try_read_intercept" vcpu_try_read_intercept(*const u8, usize, *mut u8, usize, u32, u8);
+    "vcpu_try_write_intercept" vcpu_try_write_intercept(*const u8, usize, *mut u8, usize, u32, u8);
+    "vcpu_try_msr_intercept_of_range"
+    vcpu_try_msr_intercept_of_range(*const u8, usize, *mut u8, usize, u32, u8);
 }
 
 /// The names of all functions that the archive exports.

@@ -51,7 +51,7 @@ const COUNT_REFUSED: u32 = 22;
 const INDEX_REFUSED: u32 = 23;
 
 /// The number and the results.
-#[derive(PartialEq, Eq)]
+#[derive(Clone, PartialEq, Eq)]
 pub struct Reply {
     pub number: u32,
     pub results: Results,

@@ -3,10 +3,13 @@
 //!
 //! The original reaches 1,024 bytes of each I/O frame, and its types have no wrong length and no yes/no byte
 //! other than 0 and 1. What document 01 says of these is compared on lines of their own.
+//!
+//! Before each edit of the port its trial is made (`trials.rs`).
 
 use crate::archive;
 use crate::buffer::Buffer;
 use crate::tally::{Tally, Totals};
+use crate::trials::{Accesses, MsrEdit, PortEdit, Trials};
 use oracle::generate::Random;
 use oracle::{Call, FRAME_BYTES, Oracle, Outcome, refusal_number};
 
@@ -120,10 +123,9 @@ fn each_case(random: &mut Random, cases: u64, mut step: impl FnMut(&mut Random, 
     }
 }
 
-fn call_ports(ours: &mut [Buffer; 3], lengths: [usize; 2], port: u32, count: u32, intercept: u8) -> u32 {
-    let edit = archive::vcpu_set_io_intercept_of_range().expect("the function");
+fn call_ports(trials: &mut Trials, ours: &mut [Buffer; 3], lengths: [usize; 2], edit: PortEdit) -> u32 {
     let [a, b, _] = ours;
-    unsafe { edit(a.pointer(), lengths[0], b.pointer(), lengths[1], port, count, intercept) }
+    trials.ports([a, b], lengths, edit)
 }
 
 fn ports(random: &mut Random, cases: u64, totals: &mut Totals) {
@@ -138,7 +140,7 @@ fn ports(random: &mut Random, cases: u64, totals: &mut Totals) {
             Call::PortEdit,
             &format!("port {port:#x} count {count:#x} {on}"),
             |oracle| oracle.set_io_intercept_of_range(port, count, on),
-            |ours| call_ports(ours, WHOLE, port, count, on as u8),
+            |ours| call_ports(&mut totals.trials, ours, WHOLE, PortEdit { port, count, intercept: on as u8 }),
         );
     });
     totals.add(tally);
@@ -164,7 +166,8 @@ fn ports(random: &mut Random, cases: u64, totals: &mut Totals) {
             }
         }
         frames.check(&mut tally, beyond, &format!("port {port:#x} count {count:#x} {on}"), number, |ours| {
-            call_ports(ours, WHOLE, port as u32, count as u32, on as u8)
+            let edit = PortEdit { port: port as u32, count: count as u32, intercept: on as u8 };
+            call_ports(&mut totals.trials, ours, WHOLE, edit)
         });
     });
     totals.add(tally);
@@ -176,17 +179,18 @@ fn ports(random: &mut Random, cases: u64, totals: &mut Totals) {
         let intercept = wrong_yes_no(random, lengths == WHOLE);
         let (port, count) = (random.below(PORTS + 40) as u32, random.below(40) as u32);
         let what = format!("lengths {lengths:?} port {port:#x} count {count:#x} intercept {intercept}");
-        frames.check(&mut tally, beyond, &what, WRONG_LENGTH, |ours| call_ports(ours, lengths, port, count, intercept));
+        let edit = PortEdit { port, count, intercept };
+        frames
+            .check(&mut tally, beyond, &what, WRONG_LENGTH, |ours| call_ports(&mut totals.trials, ours, lengths, edit));
     });
     totals.add(tally);
 }
 
-type MsrEdit = unsafe extern "C" fn(*mut u8, usize, u32, u8) -> u32;
 type Original = fn(&mut Oracle, u32, bool) -> Outcome<()>;
 
-fn msrs(random: &mut Random, cases: u64, totals: &mut Totals, name: &str, edit: MsrEdit, original: Original) {
-    let call = |ours: &mut [Buffer; 3], length: usize, msr: u32, intercept: u8| unsafe {
-        edit(ours[2].pointer(), length, msr, intercept)
+fn msrs(random: &mut Random, cases: u64, totals: &mut Totals, name: &str, accesses: Accesses, original: Original) {
+    let call = |trials: &mut Trials, ours: &mut [Buffer; 3], length: usize, msr: u32, intercept: u8| {
+        trials.msr(&mut ours[2], length, MsrEdit { accesses, msr, intercept })
     };
     let mut tally = Tally::new(name);
     each_case(random, cases, |random, frames, beyond| {
@@ -197,7 +201,7 @@ fn msrs(random: &mut Random, cases: u64, totals: &mut Totals, name: &str, edit: 
             Call::MsrEdit,
             &format!("MSR {msr:#x} {on}"),
             |oracle| original(oracle, msr, on),
-            |ours| call(ours, FRAME_BYTES, msr, on as u8),
+            |ours| call(&mut totals.trials, ours, FRAME_BYTES, msr, on as u8),
         );
     });
     totals.add(tally);
@@ -208,7 +212,9 @@ fn msrs(random: &mut Random, cases: u64, totals: &mut Totals, name: &str, edit: 
         let intercept = wrong_yes_no(random, length == FRAME_BYTES);
         let msr = random.msr();
         let what = format!("length {length} MSR {msr:#x} intercept {intercept}");
-        frames.check(&mut tally, beyond, &what, WRONG_LENGTH, |ours| call(ours, length, msr, intercept));
+        frames.check(&mut tally, beyond, &what, WRONG_LENGTH, |ours| {
+            call(&mut totals.trials, ours, length, msr, intercept)
+        });
     });
     totals.add(tally);
 }
@@ -220,19 +226,20 @@ pub fn run_ports(random: &mut Random, cases: u64, totals: &mut Totals) {
 }
 
 pub fn run_reads(random: &mut Random, cases: u64, totals: &mut Totals) {
-    if let Some(edit) = archive::vcpu_set_read_intercept() {
-        msrs(random, cases, totals, "vcpu_set_read_intercept", edit, Oracle::set_read_intercept);
+    if archive::vcpu_set_read_intercept().is_some() {
+        msrs(random, cases, totals, "vcpu_set_read_intercept", Accesses::Reads, Oracle::set_read_intercept);
     }
 }
 
 pub fn run_writes(random: &mut Random, cases: u64, totals: &mut Totals) {
-    if let Some(edit) = archive::vcpu_set_write_intercept() {
-        msrs(random, cases, totals, "vcpu_set_write_intercept", edit, Oracle::set_write_intercept);
+    if archive::vcpu_set_write_intercept().is_some() {
+        msrs(random, cases, totals, "vcpu_set_write_intercept", Accesses::Writes, Oracle::set_write_intercept);
     }
 }
 
 pub fn run_both(random: &mut Random, cases: u64, totals: &mut Totals) {
-    if let Some(edit) = archive::vcpu_set_msr_intercept_of_range() {
-        msrs(random, cases, totals, "vcpu_set_msr_intercept_of_range", edit, Oracle::set_msr_intercept_of_range);
+    if archive::vcpu_set_msr_intercept_of_range().is_some() {
+        let name = "vcpu_set_msr_intercept_of_range";
+        msrs(random, cases, totals, name, Accesses::Both, Oracle::set_msr_intercept_of_range);
     }
 }

@@ -18,12 +18,14 @@ mod session;
 mod setup;
 mod tally;
 mod trap_sheet;
+mod trials;
 mod whole;
 mod xsetbv;
 
 use oracle::generate::Random;
 use std::process::ExitCode;
 use tally::Totals;
+use trials::Trials;
 
 /// The functions of the archive, and the comparison that is about them.
 struct Comparison {
@@ -31,7 +33,7 @@ struct Comparison {
     run: fn(&mut Random, u64, &mut Totals),
 }
 
-const COMPARISONS: [Comparison; 13] = [
+const COMPARISONS: [Comparison; 14] = [
     Comparison { names: &["vcpu_set_control"], run: control::run },
     Comparison { names: &["vcpu_set_io_intercept_of_range"], run: intercepts::run_ports },
     Comparison { names: &["vcpu_set_read_intercept"], run: intercepts::run_reads },
@@ -45,6 +47,7 @@ const COMPARISONS: [Comparison; 13] = [
     Comparison { names: &[], run: whole::run },
     Comparison { names: &[], run: kept::run },
     Comparison { names: &["vcpu_trap_sheet"], run: trap_sheet::run },
+    Comparison { names: &trials::NAMES, run: trials::run },
 ];
 
 /// The names that the archive lacks.
@@ -58,14 +61,15 @@ fn main() -> ExitCode {
     let cases = arguments.first().copied().unwrap_or(20_000);
     let seed = arguments.get(1).copied().unwrap_or(1);
     println!("differential: {cases} cases for each function, seed {seed}");
-    let mut totals = Totals::default();
+    let random = |i: usize| Random::new(seed.wrapping_add((i as u64) << 32), true);
+    let mut totals = Totals::new(Trials::new(random(COMPARISONS.len())));
     let lacking: Vec<&str> = COMPARISONS.iter().flat_map(missing).collect();
     if !lacking.is_empty() {
         lacking.iter().for_each(|name| println!("{name}: NOT IN THE ARCHIVE"));
         return ExitCode::from(1);
     }
     for (i, comparison) in COMPARISONS.iter().enumerate() {
-        (comparison.run)(&mut Random::new(seed.wrapping_add((i as u64) << 32), true), cases, &mut totals);
+        (comparison.run)(&mut random(i), cases, &mut totals);
     }
     let compared = |name: &str| COMPARISONS.iter().any(|comparison| comparison.names.contains(&name));
     let alone: Vec<&str> = archive::exported().filter(|name| !compared(name)).collect();

@@ -2,6 +2,8 @@
 //!
 //! Where document 01 decides against the original, or the original can't be asked, document 01's number or answer is expected. These are
 //! counted on a line of their own.
+//!
+//! Before each report to the port its trial is made (`trials.rs`).
 
 use crate::archive;
 use crate::buffer::Buffer;
@@ -9,6 +11,7 @@ use crate::calls::{BYTES_REFUSED, PHASE_REFUSED, Reply};
 use crate::choose;
 use crate::session::Session;
 use crate::tally::{Tally, Totals};
+use crate::trials::Trials;
 use oracle::generate::Random;
 use oracle::record::{self, LENGTH};
 use oracle::{Answer, Call as Original, Outcome, Report, refusal_number};
@@ -54,15 +57,15 @@ pub fn port(record: &mut Buffer, length: usize, block: &[u8]) -> Reply {
 }
 
 /// One report in the running phase.
-pub fn step(session: &mut Session, random: &mut Random, tally: &mut Tally) {
+pub fn step(session: &mut Session, random: &mut Random, trials: &mut Trials, tally: &mut Tally) {
     let report = random.report(&mut session.oracle);
     let outcome = original(session, &report);
-    let reply = port(&mut session.ours, LENGTH, &report.block());
+    let reply = trials.report(&mut session.ours, LENGTH, &report.block());
     session.check(tally, expected(&report, &outcome), reply, || format!("{report:x?}"));
 }
 
 /// A move to CR0 that turns paging on, with a RIP near the end and, mostly, an entry word that cannot follow: 17 comes before 8.
-fn crowded_step(session: &mut Session, random: &mut Random, tally: &mut Tally) {
+fn crowded_step(session: &mut Session, random: &mut Random, trials: &mut Trials, tally: &mut Tally) {
     if random.chance(80) {
         session.reference.kept.pairs[4] &= !(IA32E_MODE | IA32E_MODE << 32);
         session.oracle.store_capabilities(&session.reference.kept);
@@ -73,17 +76,17 @@ fn crowded_step(session: &mut Session, random: &mut Random, tally: &mut Tally) {
     (report.registers[0], report.efer) = (1 << 31 | random.word(), 0x100);
     report.rip = u64::MAX - random.below(8);
     let outcome = original(session, &report);
-    let reply = port(&mut session.ours, LENGTH, &report.block());
+    let reply = trials.report(&mut session.ours, LENGTH, &report.block());
     session.check(tally, expected(&report, &outcome), reply, || format!("{report:x?}"));
 }
 
 /// An I/O size of 8: as the original, but the answer is Halt.
-fn qword_step(session: &mut Session, random: &mut Random, tally: &mut Tally) {
+fn qword_step(session: &mut Session, random: &mut Random, trials: &mut Trials, tally: &mut Tally) {
     let mut report = random.report(&mut session.oracle);
     report.reason = IO_INSTRUCTION;
     report.qualification = report.qualification & !STRING_OR_REPEATED | QWORD;
     let outcome = original(session, &report).map(|_| Answer::Halt);
-    let reply = port(&mut session.ours, LENGTH, &report.block());
+    let reply = trials.report(&mut session.ours, LENGTH, &report.block());
     session.check(tally, expected(&report, &outcome), reply, || format!("{report:x?}"));
 }
 
@@ -122,7 +125,7 @@ pub fn spoil_masked_bit(session: &mut Session, random: &mut Random, report: &mut
 }
 
 /// A call that document 01 refuses: by what the report says, by the phase, or by the bytes.
-fn refused_step(session: &mut Session, random: &mut Random, tally: &mut Tally) {
+fn refused_step(session: &mut Session, random: &mut Random, trials: &mut Trials, tally: &mut Tally) {
     let mut report = random.report(&mut session.oracle);
     let mut number = spoil(session, random, &mut report);
     let mut ours = Buffer::new(2 * LENGTH);
@@ -146,7 +149,7 @@ fn refused_step(session: &mut Session, random: &mut Random, tally: &mut Tally) {
         _ => (),
     }
     let before = ours.content().to_vec();
-    let reply = port(&mut ours, length, &block);
+    let reply = trials.report(&mut ours, length, &block);
     let same = ours.content() == before && ours.margins_intact() && reply == Reply::refused(number);
     tally.compare_number(number, same, || {
         format!("{report:x?}, lengths {length} and {}: expected {number}, port {}", block.len(), reply.text())
@@ -163,10 +166,10 @@ pub fn run(random: &mut Random, cases: u64, totals: &mut Totals) {
         }
         session.put_phase(record::RUNNING);
         match random.below(40) {
-            0..4 => refused_step(&mut session, random, &mut outside),
-            4..8 => qword_step(&mut session, random, &mut outside),
-            8 => crowded_step(&mut session, random, &mut tally),
-            _ => step(&mut session, random, &mut tally),
+            0..4 => refused_step(&mut session, random, &mut totals.trials, &mut outside),
+            4..8 => qword_step(&mut session, random, &mut totals.trials, &mut outside),
+            8 => crowded_step(&mut session, random, &mut totals.trials, &mut tally),
+            _ => step(&mut session, random, &mut totals.trials, &mut tally),
         }
     }
     totals.add(tally);

@@ -4,6 +4,8 @@
 //!
 //! Where the original can't be asked (`calls::outside`), the port must refuse with document 01's number and change nothing. These are
 //! counted on lines of their own.
+//!
+//! Before each entry of the port its trial is made (`trials.rs`).
 
 use crate::archive;
 use crate::buffer::Buffer;
@@ -11,6 +13,7 @@ use crate::calls::{self, Call, NAMES, Reply};
 use crate::choose;
 use crate::report;
 use crate::tally::{Tally, Totals};
+use crate::trials::Trials;
 use oracle::generate::Random;
 use oracle::record::{self, LENGTH, Reference};
 use oracle::{FRAME_BYTES, Oracle};
@@ -109,23 +112,23 @@ impl Session {
     }
 
     /// One call on both sides.
-    fn call(&mut self, lines: &mut Lines, which: usize, call: Call) {
+    fn call(&mut self, trials: &mut Trials, lines: &mut Lines, which: usize, call: Call) {
         let (phase, waiting) = (self.reference.phase, self.oracle.events().len());
         let (tally, expected) = match calls::outside(call, self.ours.content(), LENGTH) {
             Some(number) => (&mut lines.outside[which], Reply::refused(number)),
             None => (&mut lines.inside[which], calls::original(call, &mut self.oracle, &mut self.reference)),
         };
-        let reply = calls::port(call, self.ours.pointer(), LENGTH);
+        let reply = trials.call(call, &mut self.ours, LENGTH);
         self.check(tally, expected, reply, || format!("{call:x?} in phase {phase}, {waiting} events waiting"));
     }
 
     /// A call on bytes that are no record.
-    fn call_on_broken(&mut self, random: &mut Random, tally: &mut Tally, call: Call) {
+    fn call_on_broken(&mut self, random: &mut Random, trials: &mut Trials, tally: &mut Tally, call: Call) {
         self.broken.content_mut()[..LENGTH].copy_from_slice(self.ours.content());
         let length = choose::breakage(random, self.broken.content_mut());
         let before = self.broken.content().to_vec();
         let expected = Reply::refused(calls::outside(call, &before, length).expect("no record"));
-        let reply = calls::port(call, self.broken.pointer(), length);
+        let reply = trials.call(call, &mut self.broken, length);
         let same = self.broken.content() == before && self.broken.margins_intact() && reply == expected;
         tally.compare_number(expected.number, same, || {
             let differences = record::differences(self.broken.content(), &before);
@@ -137,24 +140,31 @@ impl Session {
         });
     }
 
-    fn step(&mut self, random: &mut Random, lines: &mut Lines, reports: &mut Tally) {
+    fn step(&mut self, random: &mut Random, trials: &mut Trials, lines: &mut Lines, reports: &mut Tally) {
         let which = random.below(NAMES.len() as u64) as usize;
         let call = choose::call(random, which);
-        self.prepare(random, lines, reports, call);
+        self.prepare(random, trials, lines, reports, call);
         if random.chance(6) {
-            self.call_on_broken(random, &mut lines.outside[which], call);
+            self.call_on_broken(random, trials, &mut lines.outside[which], call);
         } else {
-            self.call(lines, which, call);
+            self.call(trials, lines, which, call);
         }
     }
 
     /// Mostly brings the session to a phase in which the call is accepted; now and then to any.
-    fn prepare(&mut self, random: &mut Random, lines: &mut Lines, reports: &mut Tally, call: Call) {
+    fn prepare(
+        &mut self,
+        random: &mut Random,
+        trials: &mut Trials,
+        lines: &mut Lines,
+        reports: &mut Tally,
+        call: Call,
+    ) {
         if random.chance(8) {
             return self.put_phase(random.below(record::ENDED as u64 + 1) as u8);
         }
         match call {
-            Call::Entry { .. } => self.make_ready(random, lines, reports),
+            Call::Entry { .. } => self.make_ready(random, trials, lines, reports),
             Call::ApicValue { .. } => self.put_phase(record::WAITING_PHASE),
             Call::QueueEvent { .. } | Call::InjectInterrupt { .. } if self.reference.phase == record::ENDED => {
                 self.put_phase(random.below(record::ENDED as u64) as u8)
@@ -164,12 +174,12 @@ impl Session {
     }
 
     /// From running by a report, from waiting by a value, else by the record's byte.
-    fn make_ready(&mut self, random: &mut Random, lines: &mut Lines, reports: &mut Tally) {
+    fn make_ready(&mut self, random: &mut Random, trials: &mut Trials, lines: &mut Lines, reports: &mut Tally) {
         if self.reference.phase == record::RUNNING {
-            report::step(self, random, reports);
+            report::step(self, random, trials, reports);
         }
         if self.reference.phase == record::WAITING_PHASE {
-            self.call(lines, 3, Call::ApicValue { value: random.word() });
+            self.call(trials, lines, 3, Call::ApicValue { value: random.word() });
         }
         self.put_phase(record::READY);
     }
@@ -189,7 +199,7 @@ pub fn run(random: &mut Random, cases: u64, totals: &mut Totals) {
         if i % CALLS == 0 {
             session.start(random);
         }
-        session.step(random, &mut lines, &mut reports);
+        session.step(random, &mut totals.trials, &mut lines, &mut reports);
     }
     lines.add_to(totals);
     totals.add(reports);

@@ -1,10 +1,12 @@
 //! Counts of what was compared, a line for each function.
 
+use crate::trials::Trials;
+
 /// Differences that are printed in full for each line.
 const SHOWN: u64 = 5;
 
 /// One more than the greatest number of a refusal.
-const NUMBERS: usize = 25;
+const NUMBERS: usize = 26;
 
 pub struct Tally {
     name: String,
@@ -53,13 +55,18 @@ impl Tally {
     }
 }
 
-#[derive(Default)]
 pub struct Totals {
     pub compared: u64,
     pub different: u64,
+    /// They are made beside the calls of several comparisons, and their lines end the table.
+    pub trials: Trials,
 }
 
 impl Totals {
+    pub fn new(trials: Trials) -> Self {
+        Totals { compared: 0, different: 0, trials }
+    }
+
     pub fn add(&mut self, tally: Tally) {
         println!("{}: {} compared{}, {} differ", tally.name, tally.compared, tally.numbers(), tally.different);
         self.compared += tally.compared;

@@ -1,5 +1,6 @@
 //! Whole sessions: a new one, its setup, and then calls of every kind until an entry fails. Nothing but the archive's own calls moves the
-//! port's record and frames. After each call the number, the results, every byte of the record and of the three frames are compared.
+//! port's record and frames. After each call the number, the results, every byte of the record and of the three frames are compared. Before each call that
+//! has a trial its trial is made (`trials.rs`).
 //!
 //! Some sessions are on a board without the TRUE words. Document 02 decides of them (`setup::used`), so all their calls are on a line of their own.
 
@@ -11,6 +12,7 @@ use crate::report;
 use crate::session::Session;
 use crate::setup;
 use crate::tally::{Tally, Totals};
+use crate::trials::{Accesses, MsrEdit, PortEdit, Trials};
 use crate::xsetbv;
 use oracle::generate::Random;
 use oracle::record::{self, LENGTH};
@@ -154,95 +156,90 @@ impl Whole {
         self.check(tally, done(Original::Setup, outcome), Reply::refused(number), || format!("{setup:x?}"));
     }
 
-    fn report(&mut self, random: &mut Random, counts: &mut Counts) {
+    fn report(&mut self, random: &mut Random, trials: &mut Trials, counts: &mut Counts) {
         let report = random.report(&mut self.session.oracle);
         let outcome = report::original(&mut self.session, &report);
         let expected = report::expected(&report, &outcome);
         counts.exit(&report, &expected);
-        let reply = report::port(&mut self.session.ours, LENGTH, &report.block());
+        let reply = trials.report(&mut self.session.ours, LENGTH, &report.block());
         self.check(counts.line(Line::Reports), expected, reply, || format!("{report:x?}"));
     }
 
     /// XSETBV, of which document 02 decides.
-    fn xsetbv(&mut self, random: &mut Random, counts: &mut Counts) {
+    fn xsetbv(&mut self, random: &mut Random, trials: &mut Trials, counts: &mut Counts) {
         let report = xsetbv::near_report(&mut self.session, random);
         let expected = xsetbv::expected(&mut self.session, &report);
         counts.exit(&report, &expected);
-        let reply = report::port(&mut self.session.ours, LENGTH, &report.block());
+        let reply = trials.report(&mut self.session.ours, LENGTH, &report.block());
         self.check(counts.line(Line::Xsetbv), expected, reply, || format!("{report:x?}"));
     }
 
     /// A report that document 01 refuses and the original does not: it changes nothing.
-    fn refused_report(&mut self, random: &mut Random, tally: &mut Tally) {
+    fn refused_report(&mut self, random: &mut Random, trials: &mut Trials, tally: &mut Tally) {
         let mut report = random.report(&mut self.session.oracle);
         let number = report::spoil(&mut self.session, random, &mut report);
-        let reply = report::port(&mut self.session.ours, LENGTH, &report.block());
+        let reply = trials.report(&mut self.session.ours, LENGTH, &report.block());
         self.check(tally, Reply::refused(number), reply, || format!("{report:x?}"));
     }
 
-    fn edit_ports(&mut self, random: &mut Random, tally: &mut Tally) {
-        let edit = archive::vcpu_set_io_intercept_of_range().expect("the function");
+    fn edit_ports(&mut self, random: &mut Random, trials: &mut Trials, tally: &mut Tally) {
         let (port, count) = random.ports();
         let intercept = random.chance(60);
         let outcome = self.session.oracle.attempt(|oracle| oracle.set_io_intercept_of_range(port, count, intercept));
         self.expected = self.session.oracle.frames().map(|frame| *frame);
-        let n = FRAME_BYTES;
-        let [a, b, _] = self.frames.each_mut().map(|frame| frame.pointer());
-        let number = unsafe { edit(a, n, b, n, port, count, intercept as u8) };
+        let [a, b, _] = &mut self.frames;
+        let edit = PortEdit { port, count, intercept: intercept as u8 };
+        let number = trials.ports([a, b], [FRAME_BYTES; 2], edit);
         self.check(tally, done(Original::PortEdit, outcome), Reply::refused(number), || {
             format!("ports {port:#x}, {count:#x}, {intercept}")
         });
     }
 
-    fn edit_msr(&mut self, random: &mut Random, tally: &mut Tally) {
-        let (msr, intercept, which) = (random.msr(), random.chance(60), random.below(3));
-        let outcome = self.session.oracle.attempt(|oracle| match which {
-            0 => oracle.set_read_intercept(msr, intercept),
-            1 => oracle.set_write_intercept(msr, intercept),
-            _ => oracle.set_msr_intercept_of_range(msr, intercept),
+    fn edit_msr(&mut self, random: &mut Random, trials: &mut Trials, tally: &mut Tally) {
+        let (msr, intercept) = (random.msr(), random.chance(60));
+        let accesses = random.pick(&[Accesses::Reads, Accesses::Writes, Accesses::Both]);
+        let outcome = self.session.oracle.attempt(|oracle| match accesses {
+            Accesses::Reads => oracle.set_read_intercept(msr, intercept),
+            Accesses::Writes => oracle.set_write_intercept(msr, intercept),
+            Accesses::Both => oracle.set_msr_intercept_of_range(msr, intercept),
         });
         self.expected = self.session.oracle.frames().map(|frame| *frame);
-        let edit = match which {
-            0 => archive::vcpu_set_read_intercept(),
-            1 => archive::vcpu_set_write_intercept(),
-            _ => archive::vcpu_set_msr_intercept_of_range(),
-        };
-        let edit = edit.expect("the function");
-        let number = unsafe { edit(self.frames[2].pointer(), FRAME_BYTES, msr, intercept as u8) };
-        self.check(tally, done(Original::MsrEdit, outcome), Reply::refused(number), || {
-            format!("MSR {msr:#x}, {which}, {intercept}")
-        });
+        let edit = MsrEdit { accesses, msr, intercept: intercept as u8 };
+        let number = trials.msr(&mut self.frames[2], FRAME_BYTES, edit);
+        self.check(tally, done(Original::MsrEdit, outcome), Reply::refused(number), || format!("{edit:x?}"));
     }
 
     /// A call on the session by its arguments, refused or not.
-    fn call(&mut self, tally: &mut Tally, call: Call) {
+    fn call(&mut self, trials: &mut Trials, tally: &mut Tally, call: Call) {
         let phase = self.session.reference.phase;
         let expected = match calls::outside(call, self.session.ours.content(), LENGTH) {
             Some(number) => Reply::refused(number),
             None => calls::original(call, &mut self.session.oracle, &mut self.session.reference),
         };
-        let reply = calls::port(call, self.session.ours.pointer(), LENGTH);
+        let reply = trials.call(call, &mut self.session.ours, LENGTH);
         self.check(tally, expected, reply, || format!("{call:x?} in phase {phase}"));
     }
 
     /// The call that brings the session on, or another.
-    fn step(&mut self, random: &mut Random, counts: &mut Counts) {
+    fn step(&mut self, random: &mut Random, trials: &mut Trials, counts: &mut Counts) {
         let on = random.chance(50);
         match self.session.reference.phase {
             record::FRESH if on => self.set_up(random, counts),
-            record::READY if on => self.call(counts.line(Line::Calls), Call::Entry { host_stack: random.word() }),
-            record::RUNNING if on && random.chance(10) => self.xsetbv(random, counts),
-            record::RUNNING if on => self.report(random, counts),
-            record::RUNNING if random.chance(5) => self.refused_report(random, counts.line(Line::Reports)),
+            record::READY if on => {
+                self.call(trials, counts.line(Line::Calls), Call::Entry { host_stack: random.word() })
+            }
+            record::RUNNING if on && random.chance(10) => self.xsetbv(random, trials, counts),
+            record::RUNNING if on => self.report(random, trials, counts),
+            record::RUNNING if random.chance(5) => self.refused_report(random, trials, counts.line(Line::Reports)),
             record::WAITING_PHASE if on => {
-                self.call(counts.line(Line::Calls), Call::ApicValue { value: random.word() })
+                self.call(trials, counts.line(Line::Calls), Call::ApicValue { value: random.word() })
             }
             _ => match random.below(10) {
-                0 => self.edit_ports(random, counts.line(Line::Calls)),
-                1 => self.edit_msr(random, counts.line(Line::Calls)),
+                0 => self.edit_ports(random, trials, counts.line(Line::Calls)),
+                1 => self.edit_msr(random, trials, counts.line(Line::Calls)),
                 _ => {
                     let which = random.below(calls::NAMES.len() as u64) as usize;
-                    self.call(counts.line(Line::Calls), choose::call(random, which));
+                    self.call(trials, counts.line(Line::Calls), choose::call(random, which));
                 }
             },
         }
@@ -262,7 +259,7 @@ pub fn run(random: &mut Random, cases: u64, totals: &mut Totals) {
         counts.older = random.chance(OLDER_BOARDS);
         let mut whole = Whole::new(&mut counts);
         for i in 0..CALLS {
-            whole.step(random, &mut counts);
+            whole.step(random, &mut totals.trials, &mut counts);
             if whole.session.reference.phase == record::ENDED && i % 8 == 7 {
                 break;
             }

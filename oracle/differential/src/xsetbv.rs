@@ -6,6 +6,7 @@ use crate::calls::{PHASE_REFUSED, Reply};
 use crate::report;
 use crate::session::Session;
 use crate::tally::{Tally, Totals};
+use crate::trials::Trials;
 use oracle::generate::Random;
 use oracle::record::{self, LENGTH};
 use oracle::{Answer, Report};
@@ -136,10 +137,10 @@ pub fn near_report(session: &mut Session, random: &mut Random) -> Report {
 }
 
 /// One report: what the port does, and what it must do.
-fn compare(session: &mut Session, report: &Report, tally: &mut Tally) {
+fn compare(session: &mut Session, report: &Report, trials: &mut Trials, tally: &mut Tally) {
     let (supported, before) = (session.reference.supported, session.reference.xcr0);
     let expected = expected(session, report);
-    let reply = report::port(&mut session.ours, LENGTH, &report.block());
+    let reply = trials.report(&mut session.ours, LENGTH, &report.block());
     session.check(tally, expected, reply, || format!("supported {supported:#x}, XCR0 {before:#x}, {report:x?}"));
 }
 
@@ -153,7 +154,7 @@ fn place(session: &mut Session, random: &mut Random, supported: u64) {
 
 /// A set of the named bits, alone and with one of the other bits, under the edges' words, the value itself, and each word that lacks one
 /// bit of it alone.
-fn compare_set(session: &mut Session, random: &mut Random, chosen: usize, tally: &mut Tally) {
+fn compare_set(session: &mut Session, random: &mut Random, chosen: usize, trials: &mut Trials, tally: &mut Tally) {
     let places = NAMED.iter().enumerate().filter(|(i, _)| chosen >> i & 1 != 0);
     let named = places.fold(0, |value, (_, bit)| value | 1u64 << bit);
     let others: Vec<u32> = (0..64).filter(|bit| !NAMED.contains(bit)).collect();
@@ -162,7 +163,7 @@ fn compare_set(session: &mut Session, random: &mut Random, chosen: usize, tally:
         for supported in SUPPORTED.into_iter().chain([value]).chain(bits.map(|bit| !bit)) {
             place(session, random, supported);
             let report = report_of(session, random, value);
-            compare(session, &report, tally);
+            compare(session, &report, trials, tally);
         }
     }
 }
@@ -174,7 +175,7 @@ pub fn run(random: &mut Random, cases: u64, totals: &mut Totals) {
         if chosen % EXITS == 0 {
             session.start(random);
         }
-        compare_set(&mut session, random, chosen, &mut tally);
+        compare_set(&mut session, random, chosen, &mut totals.trials, &mut tally);
     }
     for i in 0..cases {
         if i % EXITS as u64 == 0 {
@@ -186,7 +187,7 @@ pub fn run(random: &mut Random, cases: u64, totals: &mut Totals) {
             session.put_phase(random.pick(&[record::FRESH, record::READY, record::WAITING_PHASE, record::ENDED]));
         }
         let report = near_report(&mut session, random);
-        compare(&mut session, &report, &mut tally);
+        compare(&mut session, &report, &mut totals.trials, &mut tally);
     }
     totals.add(tally);
 }

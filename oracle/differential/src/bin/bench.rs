@@ -3,7 +3,7 @@
 //!
 //!   bench
 //!
-//! Setup and each exit report are first made on both sides and compared.
+//! Setup and each exit report are first made on both sides and compared, and each trial with its call.
 
 #[path = "../archive.rs"]
 #[allow(dead_code)]
@@ -26,12 +26,12 @@ const HEADING: &str = "\
 One process, the same inputs, the median of 401 batches of each side, the batches taking turns. Nanoseconds a call.
 
 The port: calls of the C archive. Each call tests the record's bytes and reads and changes it in place; setup decodes it and writes it back whole. An exit report
-also decodes a block of 244 bytes, setup one of 273. No call keeps anything between calls.
+also decodes a block of 244 bytes, setup one of 273. A trial copies the record, or both I/O frames, and changes the copy. No call keeps anything between calls.
 
 The Rust: the original's functions over arrays, called bare (no record, no block, nothing caught), as a release build has them: without overflow checks, all
 crates optimized together. Its state stays in memory. A field is an array access in place of VMREAD or VMWRITE, an MSR a search of a short list in place of
 RDMSR. An exit is its `run` with an empty queue: its assembly saves and loads the registers, and the report is stored in the arrays in place of the guest's run.
-An entry alone is its `inject_pending_events`, without that assembly; it has no phases, no counts, no trap sheet, and tests fewer things.
+An entry alone is its `inject_pending_events`, without that assembly; it has no phases, no counts, no trap sheet, no trials, and tests fewer things.
 ";
 
 thread_local! {
@@ -57,6 +57,34 @@ struct Port {
     answer: [u64; 8],
 }
 
+/// The second buffers of trials, apart from the port's bytes.
+struct Shown {
+    record: [u8; LENGTH],
+    a: [u8; FRAME_BYTES],
+    b: [u8; FRAME_BYTES],
+}
+
+impl Shown {
+    fn new() -> Box<Self> {
+        Box::new(Shown { record: [0; LENGTH], a: [0; FRAME_BYTES], b: [0; FRAME_BYTES] })
+    }
+
+    fn copy_record(&mut self, port: &mut Port, i: u64) -> u64 {
+        port.record[record::REGISTERS] = i as u8;
+        self.record.copy_from_slice(black_box(&port.record));
+        black_box(&mut self.record);
+        0
+    }
+
+    fn copy_io_frames(&mut self, port: &mut Port, i: u64) -> u64 {
+        port.a[0] = i as u8;
+        self.a.copy_from_slice(black_box(&port.a));
+        self.b.copy_from_slice(black_box(&port.b));
+        black_box((&mut self.a, &mut self.b));
+        0
+    }
+}
+
 impl Port {
     fn new(setup: &Setup) -> Self {
         let zeros = [0; FRAME_BYTES];
@@ -80,6 +108,13 @@ impl Port {
         port!(vcpu_set_io_intercept_of_range(a, FRAME_BYTES, b, FRAME_BYTES, port, count, intercept))
     }
 
+    fn try_ports(&self, shown: &mut Shown, port: u32, count: u32, intercept: u8) -> u32 {
+        let n = FRAME_BYTES;
+        let (a, b) = (self.a.as_ptr(), self.b.as_ptr());
+        let (next_a, next_b) = (shown.a.as_mut_ptr(), shown.b.as_mut_ptr());
+        port!(vcpu_try_io_intercept_of_range(a, n, b, n, next_a, n, next_b, n, port, count, intercept))
+    }
+
     fn queue(&mut self, vector: u8, code: u32) -> u32 {
         port!(vcpu_queue_event(self.record.as_mut_ptr(), LENGTH, vector, 1, code))
     }
@@ -90,6 +125,17 @@ impl Port {
         port!(vcpu_entry(self.record.as_mut_ptr(), LENGTH, host_stack, &mut resumed, &mut event)) + event as u32
     }
 
+    fn try_entry(&self, shown: &mut Shown, host_stack: u64) -> u32 {
+        let (mut resumed, mut event) = (0, 0);
+        let (r, next) = (self.record.as_ptr(), shown.record.as_mut_ptr());
+        port!(vcpu_try_entry(r, LENGTH, next, LENGTH, host_stack, &mut resumed, &mut event)) + event as u32
+    }
+
+    fn try_enter(&mut self, shown: &mut Shown, host_stack: u64) -> u32 {
+        self.record[record::PHASE] = record::READY;
+        self.try_entry(shown, host_stack)
+    }
+
     fn report(&mut self) -> u32 {
         let (r, block) = (self.record.as_mut_ptr(), &self.report);
         port!(vcpu_exit_report(r, LENGTH, block.as_ptr(), block.len(), self.answer.as_mut_ptr()))
@@ -98,6 +144,17 @@ impl Port {
     fn report_running(&mut self) -> u32 {
         self.record[record::PHASE] = record::RUNNING;
         self.report()
+    }
+
+    fn try_report(&mut self, shown: &mut Shown) -> u32 {
+        let (r, next, block) = (self.record.as_ptr(), shown.record.as_mut_ptr(), &self.report);
+        let answer = self.answer.as_mut_ptr();
+        port!(vcpu_try_exit_report(r, LENGTH, next, LENGTH, block.as_ptr(), block.len(), answer))
+    }
+
+    fn try_report_running(&mut self, shown: &mut Shown) -> u32 {
+        self.record[record::PHASE] = record::RUNNING;
+        self.try_report(shown)
     }
 
     fn field(&mut self, encoding: u64) -> u64 {
@@ -189,6 +246,29 @@ impl Bench {
     fn lone_goal_row(&mut self, goal: f64, name: &str, calls: u64, port: impl FnMut(&mut Port, u64) -> u64) {
         let time = self.lone_row(name, calls, port);
         self.goals.push(Goal { name: name.to_string(), figure: time, most: goal, unit: " ns" });
+    }
+
+    /// A trial, its call and a copy of what it shows, in turn. The goal: the call, one and a half copies and 5 ns.
+    fn trial_rows(
+        &mut self,
+        name: &str,
+        mut trial: impl FnMut(&mut Port, &mut Shown, u64) -> u64,
+        mut call: impl FnMut(&mut Port, u64) -> u64,
+        (copied, copy): Copied,
+    ) {
+        let (port, shown, calls) = (&mut self.port, &mut Shown::new(), 2000);
+        let mut times = [(); 3].map(|()| Vec::new());
+        for k in 0..BATCHES as u64 {
+            times[0].push(batch(calls, k * calls, |i| trial(port, shown, i)));
+            times[1].push(batch(calls, k * calls, |i| call(port, i)));
+            times[2].push(batch(calls, k * calls, |i| copy(shown, port, i)));
+        }
+        let [trial, call, copy] = times.map(median);
+        let name = format!("trial of {name}");
+        println!("| {name} | {trial:.1} | - | - |");
+        println!("| call beside the {name} | {call:.1} | - | - |");
+        println!("| memcpy of {copied} beside the {name} | {copy:.1} | - | - |");
+        self.goals.push(Goal { name, figure: trial, most: call + 1.5 * copy + 5.0, unit: " ns" });
     }
 
     fn lone_rust_row(&mut self, name: &str, calls: u64, mut rust: impl FnMut(&mut VmxVcpu, u64) -> u64) {
@@ -349,12 +429,13 @@ fn events_and_entries(bench: &mut Bench) {
 
 /// Reports that differ from the usual one: name and what to change.
 type Change = (&'static str, fn(&mut Report));
+const EXTERNAL_INTERRUPT: Change = ("external interrupt", |r| (r.reason, r.interruption_info) = (1, 0x8000_0020));
 const REPORTS: [Change; 8] = [
     ("CPUID, leaf 1", |r| (r.reason, r.registers[0]) = (10, 1)),
     ("I/O, a byte to port 0x60", |r| (r.reason, r.qualification) = (30, 0x60_0000)),
     ("move to CR0", |r| (r.reason, r.registers[0]) = (28, 0x11)),
     ("interrupt window", |r| r.reason = 7),
-    ("external interrupt", |r| (r.reason, r.interruption_info) = (1, 0x8000_0020)),
+    EXTERNAL_INTERRUPT,
     ("VMCALL", |r| r.reason = 18),
     ("RDMSR", |r| (r.reason, r.registers[1]) = (31, 0x10)),
     ("HLT, which is not dealt with", |r| r.reason = 12),
@@ -402,6 +483,44 @@ fn reports(bench: &mut Bench) {
             vcpu.queue_event(14, Some(i as u32));
             run(vcpu)
         },
+    );
+}
+
+/// What a trial shows, by its name, and a copy of it.
+type Copied = (&'static str, fn(&mut Shown, &mut Port, u64) -> u64);
+const RECORD: Copied = ("the record", Shown::copy_record);
+const IO_FRAMES: Copied = ("both I/O frames", Shown::copy_io_frames);
+
+/// What a trial shows must be what its call then leaves.
+fn trials(bench: &mut Bench) {
+    let (name, change) = EXTERNAL_INTERRUPT;
+    bench.prepare_report(usual_report(change));
+    let (port, shown) = (&mut bench.port, &mut Shown::new());
+    assert_eq!(port.try_report_running(shown), 0);
+    let answer = port.answer;
+    assert_eq!((port.report_running(), port.answer), (0, answer));
+    assert!(shown.record == port.record, "report");
+    assert_eq!((port.try_enter(shown, 0), port.enter(0)), (0, 0));
+    assert!(shown.record == port.record, "entry");
+    assert_eq!((port.try_ports(shown, 0x60, 1, 1), port.edit_ports(0x60, 1, 1)), (0, 0));
+    assert!(shown.a == port.a && shown.b == port.b, "one port");
+    bench.trial_rows(
+        &format!("exit report: {name}"),
+        |port, shown, _| port.try_report_running(shown) as u64,
+        |port, _| port.report_running() as u64,
+        RECORD,
+    );
+    bench.trial_rows(
+        "entry, none waits",
+        |port, shown, i| port.try_enter(shown, i) as u64,
+        |port, i| port.enter(i) as u64,
+        RECORD,
+    );
+    bench.trial_rows(
+        "one port",
+        |port, shown, i| port.try_ports(shown, i as u32 & 0x1FFF, 1, (i >> 13 & 1) as u8) as u64,
+        |port, i| port.edit_ports(i as u32 & 0x1FFF, 1, (i >> 13 & 1) as u8) as u64,
+        IO_FRAMES,
     );
 }
 
@@ -573,6 +692,7 @@ fn trap_sheets(bench: &mut Bench) {
 /// Calls that a step refuses, on an accepted record.
 fn refusals(bench: &mut Bench) {
     let refused = |name: &str, number: u32| format!("{name} refused by {number}");
+    let mut shown = Shown::new();
     bench.port.record[record::PHASE] = record::READY;
     bench.port.waiting(64);
     bench.lone_row(&refused("queue", 13), 10_000, |port, i| port.queue(14, i as u32) as u64);
@@ -581,6 +701,10 @@ fn refusals(bench: &mut Bench) {
         let (mut resumed, mut event) = (0, 0);
         port.record[record::PHASE] = record::RUNNING;
         port!(vcpu_entry(port.record.as_mut_ptr(), LENGTH, i, &mut resumed, &mut event)) as u64
+    });
+    bench.lone_row(&refused("trial of entry", 1), 10_000, |port, i| {
+        port.record[record::PHASE] = record::RUNNING;
+        port.try_entry(&mut shown, i) as u64
     });
     bench.lone_row(&refused("write of a register", 23), 10_000, |port, i| {
         port!(vcpu_set_reg_of_index(port.record.as_mut_ptr(), LENGTH, 4, i)) as u64
@@ -593,6 +717,7 @@ fn refusals(bench: &mut Bench) {
         port!(vcpu_apic_value(port.record.as_mut_ptr(), LENGTH, i)) as u64
     });
     bench.lone_row(&refused("exit report", 1), 10_000, |port, _| port.report() as u64);
+    bench.lone_row(&refused("trial of exit report", 1), 10_000, |port, _| port.try_report(&mut shown) as u64);
     bench.port.report = usual_report(|r| r.reason = 65).block();
     bench.lone_row(&refused("exit report", 14), 10_000, |port, _| port.report_running() as u64);
     bench.port.record[record::PHASE] = record::READY;
@@ -626,6 +751,7 @@ fn main() {
     setup(&mut bench, &usual);
     events_and_entries(&mut bench);
     reports(&mut bench);
+    trials(&mut bench);
     accesses(&mut bench);
     readings(&mut bench);
     trap_sheets(&mut bench);

@@ -670,7 +670,7 @@ uint32_t vcpu_try_msr_intercept_of_range(const uint8_t *frame, size_t length, ui
     F(vcpu_queue_event, 64)                 \
     F(vcpu_inject_interrupt, 64)            \
     F(vcpu_entry, 192)                      \
-    F(vcpu_exit_report, 448)                \
+    F(vcpu_exit_report, 512)                \
     F(vcpu_apic_value, 64)                  \
     F(vcpu_read_field, 128)                 \
     F(vcpu_write_field, 128)                \
@@ -687,12 +687,12 @@ uint32_t vcpu_try_msr_intercept_of_range(const uint8_t *frame, size_t length, ui
     F(vcpu_set_write_intercept, 128)        \
     F(vcpu_set_msr_intercept_of_range, 128) \
     F(vcpu_trap_sheet, 512)                 \
-    F(vcpu_try_exit_report, 512)            \
+    F(vcpu_try_exit_report, 576)            \
     F(vcpu_try_entry, 192)                  \
     F(vcpu_try_io_intercept_of_range, 192)  \
-    F(vcpu_try_read_intercept, 192)         \
-    F(vcpu_try_write_intercept, 192)        \
-    F(vcpu_try_msr_intercept_of_range, 192)
+    F(vcpu_try_read_intercept, 128)         \
+    F(vcpu_try_write_intercept, 128)        \
+    F(vcpu_try_msr_intercept_of_range, 128)
 
 #ifdef __cplusplus
 }

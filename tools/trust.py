@@ -12,8 +12,11 @@ import sys
 EXPORTS = "crates/x86_vcpu/src"
 LISTS = ["crates/calls/specs/DemandThree.antt", "crates/calls/specs/Contracts.antt"]
 CAPABILITY_WORDS = ["crates/calls/specs/CapabilityWords.antt"]
+TRIALS = ["crates/trials/specs/Reference.antt"]
 # What the statements judge and so do not rest on: setup; over lists the other steps of a session too, and what is said nothing of (the words of an answer).
 SETUP = {"setupOf", "ioBitmapSet", "msrBitmapSet"}
+# Of trials: the trial, and the calls, of which it says that a trial tells them, whatever they do.
+TRIED = {"trialOf", "reportCall", "entryCall", "portCall", "msrCall"}
 STEPS = SETUP | {"queueEvent", "injectInterrupt", "entry", "writeField", "setRegister", "apicValue", "exitReport", "answerWords"}
 # Files that tools/vmcs_names.py and tools/exit_reasons.py write.
 GENERATED = re.compile(r"/Names/|/(Named|VmxExitReason|ExitReasons)\.antt$")
@@ -162,8 +165,9 @@ def crate_row(name):
 
 def main():
     (contracts, functions), lists, words = exports(), statements(LISTS, STEPS), statements(CAPABILITY_WORDS, SETUP)
+    trials = statements(TRIALS, TRIED)
     if "--list" in sys.argv:
-        for reading in (contracts, lists, words):
+        for reading in (contracts, lists, words, trials):
             for path, number in sorted(reading.blocks):
                 print(path, reading.modules[path].blocks[number][0].strip())
             print("types:", *sorted("%s::%s" % each for each in reading.types), "\n")
@@ -172,6 +176,7 @@ def main():
     print(contracts.row("the contracts of the %d exported functions" % functions))
     print(lists.row("`whole-list`, and that its steps are the contracts"))
     print(words.row("`not-looked-at` and `older-board`"))
+    print(trials.row("`six-trials`, beside the calls"))
     crates = [line.split(":")[0] for line in open("crates.txt") if re.match(r"[a-z0-9_]+:", line)]
     rows = [crate_row(name) for name in crates if not os.path.exists(f"crates/{name}/src/main.rt")]
     print("\n| crate | functions | code | definitions | proofs |\n|---|---|---|---|---|")

@@ -6,12 +6,15 @@ mod records;
 // What the second buffers hold before a trial.
 const BEFORE: u8 = 0xEE;
 
+fn wide(byte: u8) -> u64 {
+    byte as u64
+}
+
 fn byte_at(bytes: &[u8], at: usize) -> u64 {
     if at < bytes.len() {
-        bytes[at] as u64
-    } else {
-        0
+        return wide(bytes[at]);
     }
+    0
 }
 
 fn main() {

@@ -96,24 +96,44 @@ fn block_of(reason: u8) -> [u8; Layout::LENGTH] {
     block
 }
 
-pub fn reports() {
+// Second records of another length, beside numbers of the report.
+fn other_lengths() {
+    let mut short = [crate::BEFORE; Record::LENGTH - 1];
+    let mut bytes = [0u8; Record::LENGTH];
+    let mut long = [crate::BEFORE; Record::LENGTH + 1];
+    let usual = block_of(10);
+    let unknown = block_of(65);
+    report(2, &mut bytes, &mut short, &usual);
+    report(2, &mut bytes, &mut long, &usual);
+    report(1, &mut bytes, &mut short, &usual);
+    report(2, &mut bytes, &mut short, &unknown);
+}
+
+// A block and a record of another length.
+fn wrong_bytes() {
     let mut short = [crate::BEFORE; Record::LENGTH - 1];
     let mut bytes = [0u8; Record::LENGTH];
     let mut shown = [crate::BEFORE; Record::LENGTH];
-    let mut long = [crate::BEFORE; Record::LENGTH + 1];
-    report(1, &mut bytes, &mut shown, &block_of(10));
-    report(2, &mut bytes, &mut shown, &block_of(10));
-    report(2, &mut bytes, &mut shown, &block_of(12));
-    report(3, &mut bytes, &mut shown, &block_of(10));
-    report(2, &mut bytes, &mut shown, &block_of(65));
-    report(2, &mut bytes, &mut short, &block_of(10));
-    report(2, &mut bytes, &mut long, &block_of(10));
-    report(1, &mut bytes, &mut short, &block_of(10));
-    report(2, &mut bytes, &mut short, &block_of(65));
+    let mut less = [0u8; Record::LENGTH - 1];
+    let usual = block_of(10);
     let part = [0u8; Layout::LENGTH - 1];
     report(2, &mut bytes, &mut shown, &part);
     report(2, &mut bytes, &mut short, &part);
-    let mut less = [0u8; Record::LENGTH - 1];
-    report(2, &mut less, &mut short, &block_of(10));
-    report(2, &mut less, &mut shown, &block_of(10));
+    report(2, &mut less, &mut short, &usual);
+    report(2, &mut less, &mut shown, &usual);
+}
+
+pub fn reports() {
+    let mut bytes = [0u8; Record::LENGTH];
+    let mut shown = [crate::BEFORE; Record::LENGTH];
+    let usual = block_of(10);
+    let halt = block_of(12);
+    let unknown = block_of(65);
+    report(1, &mut bytes, &mut shown, &usual);
+    report(2, &mut bytes, &mut shown, &usual);
+    report(2, &mut bytes, &mut shown, &halt);
+    report(3, &mut bytes, &mut shown, &usual);
+    report(2, &mut bytes, &mut shown, &unknown);
+    other_lengths();
+    wrong_bytes();
 }

@@ -25,7 +25,7 @@ use Rattle.call_specs.specs.Records.{EntryCall, entryCall, EntryCalled}
 use Rattle.call_specs.specs.ReportCall.{ReportCall, reportAnswer, reportAccepts, reportCall, ReportCalled}
 use Rattle.call_specs.proofs.ReportCalls.{report-no-record, report-stays, is-record, report-early, report-number, report-done}
 use Rattle.trials.specs.Trial.{outcome}
-use Rattle.trials.specs.Trials.{sameLength, reportOn, entryOn, tryReport, tryEntry, ReportTried, ReportOn, EntryTried}
+use Rattle.trials.specs.Trials.{sameLength, reportOn, entryOn, tryReport, tryEntry, ReportTried, ReportBody, EntryTried}
 use Rattle.trials.proofs.TrialLaws.{Refusing, tried-2, tried-25, tried-other, tried-0}
 use Rattle.trials.proofs.Numbers.{entry-other, report-other, report-held}
 
@@ -101,10 +101,10 @@ report-refusing block =
 
 module _ (t : Bool) (first bytes block words : List ℕ) {d : List ℕ} (e : d ≡ cond t first bytes) where
   -- refused: in a trial either by 2, or the lengths are the same
-  on-refused : {n : ℕ} → n ≡ reportCall d block words .refusal → n ≢ 0 → (t ≡ true → (n ≡ 2) ⊎ ((n ≢ 2) × (length bytes ≡ length first))) → ReportOn t first bytes block words n bytes words
+  on-refused : {n : ℕ} → n ≡ reportCall d block words .refusal → n ≢ 0 → (t ≡ true → (n ≡ 2) ⊎ ((n ≢ 2) × (length bytes ≡ length first))) → ReportBody t first bytes block words n bytes words
   on-refused {n} asked other which = go t e which
     where
-      go : (t : Bool) → d ≡ cond t first bytes → (t ≡ true → (n ≡ 2) ⊎ ((n ≢ 2) × (length bytes ≡ length first))) → ReportOn t first bytes block words n bytes words
+      go : (t : Bool) → d ≡ cond t first bytes → (t ≡ true → (n ≡ 2) ⊎ ((n ≢ 2) × (length bytes ≡ length first))) → ReportBody t first bytes block words n bytes words
       go true e which =
           let of : n ≡ reportCall first block words .refusal = asked ∙ ap (λ (l : List ℕ). reportCall l block words .refusal) e in
           report-untouched block first words
@@ -120,17 +120,17 @@ module _ (t : Bool) (first bytes block words : List ℕ) {d : List ℕ} (e : d �
           }
 
   module _ {r : Bool} (a : r ≡ reportAccepts d block) where
-    pub on-bytes : r ≡ false → ReportOn t first bytes block words 2 bytes words
+    pub on-bytes : r ≡ false → ReportBody t first bytes block words 2 bytes words
     on-bytes f = on-refused (ap (λ (c : ReportCall). c .refusal) (report-no-record d block a words f .answer)) (omega arith) (λ _. inl refl)
 
     module _ (ok : r ≡ true) where
       held : reportRefusal (sessionOf d) (reportOf block) ≢ 2
       held = report-held (sessionOf d) (reportOf block) (session-lawful d (is-record d block a ok))
 
-      pub on-length : t ≡ true → (length bytes ≡ length first → ⊥) → ReportOn t first bytes block words 25 bytes words
+      pub on-length : t ≡ true → (length bytes ≡ length first → ⊥) → ReportBody t first bytes block words 25 bytes words
       on-length = go t e
         where
-          go : (t : Bool) → d ≡ cond t first bytes → t ≡ true → (length bytes ≡ length first → ⊥) → ReportOn t first bytes block words 25 bytes words
+          go : (t : Bool) → d ≡ cond t first bytes → t ≡ true → (length bytes ≡ length first → ⊥) → ReportBody t first bytes block words 25 bytes words
           go true e _ differ =
               let of : reportRefusal (sessionOf d) (reportOf block) ≡ reportCall first block words .refusal =
               sym (report-number d block a ok words) ∙ ap (λ (l : List ℕ). reportCall l block words .refusal) e in
@@ -138,7 +138,7 @@ module _ (t : Bool) (first bytes block words : List ℕ) {d : List ℕ} (e : d �
           go false e f differ = absurd (false≢true f)
 
       module _ (same : t ≡ true → length bytes ≡ length first) where
-        pub on-phase : (sessionOf d .progress .phase ≡ Phase.RUNNING → ⊥) → ReportOn t first bytes block words 1 bytes words
+        pub on-phase : (sessionOf d .progress .phase ≡ Phase.RUNNING → ⊥) → ReportBody t first bytes block words 1 bytes words
         on-phase other =
             on-refused (ap (λ (c : ReportCall). c .refusal) (report-early d block a ok words other .answer)) (omega arith) (λ y. inr (omega arith, same y))
 
@@ -146,18 +146,18 @@ module _ (t : Bool) (first bytes block words : List ℕ) {d : List ℕ} (e : d �
           of-d : n ≡ reportCall d block words .refusal
           of-d = asked ∙ ap (reportRefusal (sessionOf d)) given ∙ sym (report-number d block a ok words)
 
-          pub on-own : (n ≡ 0 → ⊥) → ReportOn t first bytes block words n bytes words
+          pub on-own : (n ≡ 0 → ⊥) → ReportBody t first bytes block words n bytes words
           on-own other = on-refused of-d other (λ y. inr (λ z. held (sym (ap (reportRefusal (sessionOf d)) given) ∙ sym asked ∙ z), same y))
 
           pub on-done : n ≡ 0 → {copy after wordsAfter : List ℕ} {w : AxVCpuExitReason} → copy ≡ cond t first bytes → Below 256 after
               → w ≡ accepted (sessionOf copy) x .answer → Holds after (accepted (sessionOf copy) x .session) → wordsAfter ≡ answerWords w
-              → ReportOn t first bytes block words 0 after wordsAfter
+              → ReportBody t first bytes block words 0 after wordsAfter
           on-done none {copy} {after} {wordsAfter} {w} copied below p h q =
               let c : copy ≡ d = copied ∙ sym e in
               go t e same
               (report-done d block a ok given below words (sym of-d ∙ none) (p ∙ ap (λ (l : List ℕ). accepted (sessionOf l) x .answer) c)
               (subst (λ (l : List ℕ). Holds after (accepted (sessionOf l) x .session)) c h) q)
             where
-              go : (t : Bool) → d ≡ cond t first bytes → (t ≡ true → length bytes ≡ length first) → ReportCalled d block words 0 after wordsAfter → ReportOn t first bytes block words 0 after wordsAfter
+              go : (t : Bool) → d ≡ cond t first bytes → (t ≡ true → length bytes ≡ length first) → ReportCalled d block words 0 after wordsAfter → ReportBody t first bytes block words 0 after wordsAfter
               go true e same h = report-shown block first words (of-d ∙ ap (λ (l : List ℕ). reportCall l block words .refusal) e) none (same refl) e h
               go false e same h = subst (λ (l : List ℕ). ReportCalled l block words 0 after wordsAfter) e h

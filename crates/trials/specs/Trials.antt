@@ -65,6 +65,6 @@ pub record EntryTried (stack : ℕ) (bytes shown : List ℕ) (resumed injection 
   pub decodes : r ≡ 0 → decodeOf shownAfter ≡ decoded 0 (entry (decodeOf bytes .session) stack .session)
 
 -- the one body of the report and of its trial
-abbrev pub ReportOn : Bool → List ℕ → List ℕ → List ℕ → List ℕ → ℕ → List ℕ → List ℕ → Type 0
-ReportOn true first bytes block words r after wordsAfter = ReportTried first bytes block words r after wordsAfter
-ReportOn false first bytes block words r after wordsAfter = ReportCalled bytes block words r after wordsAfter
+abbrev pub ReportBody : Bool → List ℕ → List ℕ → List ℕ → List ℕ → ℕ → List ℕ → List ℕ → Type 0
+ReportBody true first bytes block words r after wordsAfter = ReportTried first bytes block words r after wordsAfter
+ReportBody false first bytes block words r after wordsAfter = ReportCalled bytes block words r after wordsAfter

@@ -10,7 +10,7 @@ ghost use Rattle.call_specs.specs.Calls.{reads, writes, both};
 ghost use Rattle.call_specs.specs.Records.{entryCall, EntryCalled};
 ghost use Rattle.call_specs.specs.ReportCall.{reportAccepts, ReportCalled};
 ghost use Rattle.trials.specs.Trial.{outcome};
-ghost use Rattle.trials.specs.Trials.{tryPorts, tryMsr, ReportTried, ReportOn, EntryTried};
+ghost use Rattle.trials.specs.Trials.{tryPorts, tryMsr, ReportTried, ReportBody, EntryTried};
 use definitions::Refusal;
 use vcpu_session::Phase;
 
@@ -55,7 +55,7 @@ fn report_on(
     answer: &mut [u64; 8],
     trial: bool,
 ) -> u32
-    ensures { λ r. ⌜ ReportOn trial (now (first .entry)) (now (bytes .entry)) (now (block .entry)) (now (answer .entry)) r (now (bytes .exit)) (now (answer .exit)) ⌝ }
+    ensures { λ r. ⌜ ReportBody trial (now (first .entry)) (now (bytes .entry)) (now (block .entry)) (now (answer .entry)) r (now (bytes .exit)) (now (answer .exit)) ⌝ }
 {
     let decides = given(first, &bytes[..], trial);
     if report_accepts(decides, block) {

@@ -1,8 +1,11 @@
 -- A refused step leaves the session as it was. Assumes nothing.
-use mathlib.Core.Path.{_≡_, refl}
+use mathlib.Core.Path.{_≡_, refl, sym, ap}
 use mathlib.Core.Bool.{Bool, true, false, cond, not}
+use mathlib.Core.Logic.{_≢_}
 use Prim.Native.Nat.{ℕ}
+use native.Mathlib.Omega.{arith}
 use lib.Dec.{eqb, leb, ltb}
+use borrow.Author.Tests.{eqb-false}
 use Rattle.vcpu_session.specs.declared.Session.{Session}
 use Rattle.vcpu_session.specs.Phase as Phase
 use Rattle.vcpu_session.specs.Session.{LAST_ENTRY, isUnlawful}
@@ -57,15 +60,37 @@ register-stays s index x = refuses (isUnlawful s) 2 s _ (rw register-by-refusal 
     go true other = absurd (other refl)
     go false other = refl
 
-pub entry-stays : (s : Session) (stack : ℕ) → (entry s stack .refusal ≡ 0 → ⊥) → entry s stack .session ≡ s
+-- ---- an entry
+
+abbrev entered : Session → ℕ → Entered
+entered s stack =
+    let injection = injectionOf (s .queue) (s .vmcs) in
+    record { refusal = 0; resumed = s .progress .launched; injection = injection; session = afterEntry s stack injection }
+
+-- what an entry that is not refused gives, and that its count is below its end
+pub entry-taken : (s : Session) (stack : ℕ) → entry s stack .refusal ≡ 0 → (s .progress .entries ≢ LAST_ENTRY) × (entry s stack ≡ entered s stack)
 unfolding entry
-entry-stays s stack =
-    let made : Entered = record { refusal = 0; resumed = s .progress .launched; injection = injectionOf (s .queue) (s .vmcs); session = afterEntry s stack (injectionOf (s .queue) (s .vmcs)) } in
-    go (isUnlawful s) (not (eqb (s .progress .phase) Phase.READY)) (eqb (s .progress .entries) LAST_ENTRY) made refl
+entry-taken s stack = go (isUnlawful s) (not (eqb (s .progress .phase) Phase.READY)) (eqb (s .progress .entries) LAST_ENTRY) refl
   where
-    go : (p q t : Bool) (made : Entered) → made .refusal ≡ 0 → (cond p (refusedEntry 2 s) (cond q (refusedEntry 1 s) (cond t (refusedEntry 22 s) made)) .refusal ≡ 0 → ⊥)
-        → cond p (refusedEntry 2 s) (cond q (refusedEntry 1 s) (cond t (refusedEntry 22 s) made)) .session ≡ s
-    go true q t made z other = refl
-    go false true t made z other = refl
-    go false false true made z other = refl
-    go false false false made z other = absurd (other z)
+    go : (p q t : Bool) → eqb (s .progress .entries) LAST_ENTRY ≡ t
+        → cond p (refusedEntry 2 s) (cond q (refusedEntry 1 s) (cond t (refusedEntry 22 s) (entered s stack))) .refusal ≡ 0
+        → (s .progress .entries ≢ LAST_ENTRY) × (cond p (refusedEntry 2 s) (cond q (refusedEntry 1 s) (cond t (refusedEntry 22 s) (entered s stack))) ≡ entered s stack)
+    go true q t e z = absurd (omega arith)
+    go false true t e z = absurd (omega arith)
+    go false false true e z = absurd (omega arith)
+    go false false false e z = (eqb-false _ LAST_ENTRY e, refl)
+
+-- one that is refused answers its number alone, and leaves the session as it was
+pub entry-refused-is : (s : Session) (stack : ℕ) {n : ℕ} → n ≡ entry s stack .refusal → n ≢ 0 → refusedEntry n s ≡ entry s stack
+unfolding entry
+entry-refused-is s stack {n} asked other = go (isUnlawful s) (not (eqb (s .progress .phase) Phase.READY)) (eqb (s .progress .entries) LAST_ENTRY) asked
+  where
+    go : (p q t : Bool) → n ≡ cond p (refusedEntry 2 s) (cond q (refusedEntry 1 s) (cond t (refusedEntry 22 s) (entered s stack))) .refusal
+        → refusedEntry n s ≡ cond p (refusedEntry 2 s) (cond q (refusedEntry 1 s) (cond t (refusedEntry 22 s) (entered s stack)))
+    go true q t e = ap (λ (k : ℕ). refusedEntry k s) e
+    go false true t e = ap (λ (k : ℕ). refusedEntry k s) e
+    go false false true e = ap (λ (k : ℕ). refusedEntry k s) e
+    go false false false e = absurd (other e)
+
+pub entry-stays : (s : Session) (stack : ℕ) → (entry s stack .refusal ≡ 0 → ⊥) → entry s stack .session ≡ s
+entry-stays s stack other = sym (ap (λ (e : Entered). e .session) (entry-refused-is s stack refl other))

@@ -1,9 +1,9 @@
 -- `structs::set_intercept_of_range` meets its contract. Assumes nothing.
-use mathlib.Core.Path.{sym, _∙_}
+use mathlib.Core.Path.{sym, ap, _∙_}
 use native.Mathlib.Omega.{arith}
 use borrow.Author.Needs.{needs}
 use borrow.Author.Tests.{ne-eqb}
-use Rattle.structs.specs.Frames.{setPorts, editPorts}
+use Rattle.structs.specs.Frames.{IOBitmap, setPorts, editPorts}
 use Rattle.structs.proofs.PortLaws.{port-accepted}
 use Rattle.structs.proofs.set_intercept_of_range.Statement.{statement}
 use Rattle.structs.proofs.set_intercept_of_range.Tie as tie
@@ -28,7 +28,7 @@ unfolding editPorts
 returns-3 c =
     let s = c .before .before .before .before in
     let f = s .before .before .before .before in
-    rw (sym (f .before .port-refusal .ensures) ∙ f .if1 .left, ← (s .set-ports .ensures))
+    rw (sym (f .before .port-refusal .ensures) ∙ f .if1 .left) (ap (λ (io : IOBitmap). record { refusal = 0; a = io .a; b = io .b }) (s .set-ports .ensures))
 
 pub set-intercept-of-range-spec : {M : Type 1} → statement M
 set-intercept-of-range-spec = tie.close (tie.spec (λ c κs. search needs) returns returns-2 set-ports-requires (λ c. search needs) (λ c. search needs) returns-3)

@@ -76,4 +76,7 @@ impl Refusal {
 
     // A trial's second buffer has another length than the first.
     pub const SHOWN: u32 = 25;
+
+    // An entry of the guest's page tables lies past the end of the memory lent.
+    pub const MEMORY: u32 = 26;
 }

@@ -37,6 +37,12 @@ numberOf-below [] h = omega arith
 numberOf-below (b ∷ bs) h = omega (arith, pow-suc 256 (length bs), numberOf-below bs (λ i. h (suc i)), h 0)
 
 -- a number below 256 ^ k is what its k bytes spell
+pub little-below : (k : ℕ) (bs : List ℕ) → Below 256 bs → littleEndian k bs < 256 ^ k
+unfolding numberOf
+little-below zero bs h = omega arith
+little-below (suc k) [] h = one-le-pow (suc k) 256 (omega arith)
+little-below (suc k) (b ∷ bs) h = omega (arith, pow-suc 256 k, little-below k bs (λ i. h (suc i)), h 0)
+
 pub number-of-bytes : (k v : ℕ) → v < 256 ^ k → numberOf (bytesOf k v) ≡ v
 unfolding numberOf bytesOf
 number-of-bytes zero v h = omega (arith, pow-zero 256)

@@ -1,5 +1,5 @@
 -- Tests that tell where a rule applies, and the law by which a ladder of such tests answers the number of the first rule that applies. Assumes nothing.
-use Prim.Native.Nat.{ℕ, _≤_, _<_}
+use Prim.Native.Nat.{ℕ, _%_, _≤_, _<_}
 use mathlib.Core.Path.{_≡_, refl, sym, _∙_, subst}
 use mathlib.Core.Bool.{Bool, true, false, cond, not, _&&_, _||_, true≢false, false≢true}
 use mathlib.Core.List.{List, [], _∷_, _++_}
@@ -54,6 +54,14 @@ tells-on b = record { yes-so = λ e. e; not-so = λ e f. true≢false (sym f ∙
 pub tells-off : (b : Bool) → Tells (not b) (b ≡ false)
 tells-off b = record { yes-so = not-true b; not-so = λ e f. true≢false (sym (not-false b e) ∙ f) }
 
+-- the lowest bit, tested for 0 and for 1
+pub tells-clear : (n : ℕ) → Tells (eqb (n % 2) 0) (eqb (n % 2) 1 ≡ false)
+tells-clear n =
+    record {
+      yes-so = λ e. rw (eqb-true (n % 2) 0 e);
+      not-so = λ e f. let z = eqb-false (n % 2) 0 e in let y = eqb-false (n % 2) 1 f in omega arith;
+    }
+
 pub tells-and : {s t : Bool} {C D : Type 0} → Tells s C → Tells t D → Tells (s && t) (C × D)
 tells-and {s} {t} p q =
     record {
@@ -105,6 +113,14 @@ ladder (r ∷ rs) rest m w = go (r .test) (r .tells) (ladder rs rest m w)
     go : (t : Bool) → Tells t (r .rule .applies) → Refuses (rulesOf rs rest) (numberOn rs m) → Refuses (rulesOf (r ∷ rs) rest) (cond t (r .rule .number) (numberOn rs m))
     go true p below = inl (p .yes-so refl, refl)
     go false p below = inr (p .not-so refl, below)
+
+-- one number alone is that of the first rule that applies
+pub refuses-one : (rs : List Rule) (m n : ℕ) → Refuses rs m → Refuses rs n → m ≡ n
+refuses-one [] m n w v = w ∙ sym v
+refuses-one (r ∷ rs) m n (inl w) (inl v) = w .1 ∙ sym (v .1)
+refuses-one (r ∷ rs) m n (inl w) (inr v) = absurd (v .0 (w .0))
+refuses-one (r ∷ rs) m n (inr w) (inl v) = absurd (w .0 (v .0))
+refuses-one (r ∷ rs) m n (inr w) (inr v) = refuses-one rs m n (w .1) (v .1)
 
 -- ---- a number, or another where it is 0
 

@@ -10,7 +10,7 @@ use lib.Dec.{eqb, lit<}
 use lib.ListN.{getD, drop}
 use borrow.Author.Tests.{eqb-true, ltb-false}
 use Rattle.bits.specs.LittleEndian.{numberOf, littleEndian, Below}
-use Rattle.bits.proofs.LittleEndianLaws.{below-drop}
+use Rattle.bits.proofs.LittleEndianLaws.{below-drop, little-below}
 use Rattle.bits.specs.Words.{bit, bitNot, low32}
 use Rattle.bits.proofs.Tells.{cond-all}
 use Rattle.regs.specs.Registers.{listOf}
@@ -52,7 +52,7 @@ use Rattle.record.proofs.FittingLaws.{regs-fits, vmcs-fits, xcr0-fits, in-phase
 use Rattle.calls.proofs.Fields.{_⊗_, value-fits, applied-fits}
 use Rattle.record.proofs.Codecs.{registers-read}
 use Rattle.record_edits.proofs.Fits.{reg-fits}
-use Rattle.calls.proofs.SetupFits.{little-below, cr-value, cr-mask, word-fits}
+use Rattle.calls.proofs.SetupFits.{cr-value, cr-mask, word-fits}
 use Rattle.calls.proofs.Sessions.{Sound}
 
 -- ---- a report of bytes fits its types

@@ -15,7 +15,7 @@ use Rattle.bits.proofs.AllBelow.{at}
 use Rattle.bits.proofs.BitLaws.{is-flag, bit-and, same-bits}
 use Rattle.bits.proofs.WordLaws.{is-true}
 use Rattle.bits.specs.Refuses.{Rule, by, orElse, Refuses}
-use Rattle.bits.proofs.Tells.{Tells, tells-eq, tells-leb, tells-ltb, tells-on, tells-off, tells-and, tells-or, tells-not, tells-as, tells-is, Rung, rung, numberOn, rulesOf, ladder, ladder-then}
+use Rattle.bits.proofs.Tells.{Tells, tells-eq, tells-leb, tells-ltb, tells-on, tells-off, tells-clear, tells-and, tells-or, tells-not, tells-as, tells-is, Rung, rung, numberOn, rulesOf, ladder, ladder-then}
 use Rattle.regs.specs.Registers.{listOf}
 use Rattle.definitions.specs.Interruption.{typeNumber, typeNumbered, typeOf}
 use Rattle.vmcs.specs.Efer.{isLongMode, lacksIa32e, updateEfer}
@@ -213,14 +213,7 @@ end-tells r = tells-as (tells-is (ap (λ (n : ℕ). ltb (2 ^ 64 - 1) (r .rip + n
 
 pub clear-tells : (a : ℕ) → Tells (lacksIa32e a) (bit 9 a ≡ false)
 unfolding lacksIa32e
-clear-tells a = tells-is (flip (a / 2 ^ 9)) (tells-off (bit 9 a))
-  where
-    flip : (n : ℕ) → eqb (n % 2) 0 ≡ not (eqb (n % 2) 1)
-    flip n = go (eqb (n % 2) 1) refl
-      where
-        go : (t : Bool) → eqb (n % 2) 1 ≡ t → eqb (n % 2) 0 ≡ not t
-        go true e = rw (eqb-true (n % 2) 1 e)
-        go false e = eq-eqb (n % 2) 0 (let z = eqb-false (n % 2) 1 e in omega arith)
+clear-tells a = tells-clear (a / 2 ^ 9)
 
 pub long-tells : (r : Report) → Tells (isLongMode (r .efer)) ((bit 8 (r .efer) ≡ true) × (bit 10 (r .efer) ≡ true))
 unfolding isLongMode

@@ -1,16 +1,16 @@
 -- What setup writes fits its fields, and what it keeps fits its types: the arguments of a block of bytes do. Assumes nothing.
-use Prim.Native.Nat.{ℕ, zero, suc, _^_, _<_}
+use Prim.Native.Nat.{ℕ, _^_, _<_}
 use mathlib.Core.Path.{refl}
 use mathlib.Core.Bool.{Bool, true, false}
 use mathlib.Core.List.{List, [], _∷_, _++_}
 use native.Mathlib.Omega.{arith}
-use native.Mathlib.Nat.{pow-suc, one-le-pow, lt-of-le-of-lt}
+use native.Mathlib.Nat.{one-le-pow, lt-of-le-of-lt}
 use lib.Bits.{bitAnd, bitOr, or-lt, and-le-l, and-le-r}
 use lib.Dec.{lit<}
 use lib.ListN.{drop}
 use Rattle.bits.specs.Words.{bit, bitNot, low32, high32}
-use Rattle.bits.specs.LittleEndian.{numberOf, littleEndian, Below}
-use Rattle.bits.proofs.LittleEndianLaws.{below-drop}
+use Rattle.bits.specs.LittleEndian.{littleEndian, Below}
+use Rattle.bits.proofs.LittleEndianLaws.{below-drop, little-below}
 use Rattle.bits.proofs.Tells.{cond-all}
 use Rattle.structs.specs.EPTPointer.{eptPointer}
 use Rattle.vmcs.specs.Control.{controlWord}
@@ -25,14 +25,6 @@ use Rattle.blocks.specs.SetupLayout as Layout
 use Rattle.blocks.specs.SetupBlock.{hostOf, addressesOf, msrsOf, featuresOf, argumentsOf}
 use Rattle.record.specs.Fitting.{CapabilitiesFit}
 use Rattle.calls.proofs.Fields.{_⊗_, AllFit, all-fit}
-
--- ---- numbers of bytes
-
-pub little-below : (k : ℕ) (bs : List ℕ) → Below 256 bs → littleEndian k bs < 256 ^ k
-unfolding numberOf
-little-below zero bs h = omega arith
-little-below (suc k) [] h = one-le-pow (suc k) 256 (omega arith)
-little-below (suc k) (b ∷ bs) h = omega (arith, pow-suc 256 k, little-below k bs (λ i. h (suc i)), h 0)
 
 -- ---- words
 

@@ -68,7 +68,7 @@ use Rattle.vcpu_report.proofs.ReportLaws.{exit-is, report-laws}
 use Rattle.blocks.specs.SetupBlock.{argumentsOf, msrsOf, featuresOf}
 use Rattle.call_specs.specs.Records.{queueStep}
 use Rattle.bits.specs.Refuses.{by, Refuses}
-use Rattle.bits.proofs.Tells.{Tells, tells-eq, tells-leb, tells-and, tells-or, tells-not, tells-as, cond-all}
+use Rattle.bits.proofs.Tells.{Tells, tells-eq, tells-leb, tells-clear, tells-and, tells-or, tells-not, tells-as, cond-all}
 use Rattle.calls.specs.Moves.{Move, queues, exits, fails, rests, moved, answerOf, Tally, tallied}
 use Rattle.calls.specs.Reference.{choose, Call, setup, queueEvent, injectInterrupt, entry, exitReport, apicValue, fieldWrite, registerWrite, WellTyped, Event, entryMove, moveBy, Limits, msrAt, limitsOf, controlValue, IsHeld, isHeld, answerOn, moveOn, Reference, types, codes, isSoft, eventFields, eventBy, controlsBy, inPhase, atSetup, atEntry, atExit, atFieldWrite, wordsBy, referenceStep, referenceAnswer, Buffers, setupRules, reportRules, ownRules}
 use Rattle.calls.specs.Calls.{Outcome, Logged, isRefused, eventOf, eventsOf, waitingOf, limitsIn, wordsOf, moveOf}
@@ -311,19 +311,11 @@ module _ (t : Tally Event) (s : Session) (h : Sound s) where
 
 -- ---- entry
 
--- bit 9 as a test of 0 and as a test of 1
-clear-tells : (n : ℕ) → Tells (eqb (n % 2) 0) (eqb (n % 2) 1 ≡ false)
-clear-tells n =
-    record {
-      yes-so = λ e. rw (eqb-true (n % 2) 0 e);
-      not-so = λ e f. let z = eqb-false (n % 2) 0 e in let y = eqb-false (n % 2) 1 f in omega arith;
-    }
-
 -- the core's hold rule and the reference's
 held-tells : (v f i : ℕ) → Tells (Entry.isHeld v f i) (IsHeld v (bit 9 f) i)
 unfolding Entry.isHeld
 held-tells v f i =
-    tells-and (tells-leb 32 v) (tells-or (clear-tells (f / 2 ^ 9)) (tells-as (tells-not (tells-eq i 0)) (λ n. omega arith) (λ l e. omega arith)))
+    tells-and (tells-leb 32 v) (tells-or (tells-clear (f / 2 ^ 9)) (tells-as (tells-not (tells-eq i 0)) (λ n. omega arith) (λ l e. omega arith)))
 
 -- the answer, from the arrays and from the events that wait
 front : (n : ℕ) (vs : List ℕ) (w : ℕ) (cs : List ℕ) (f i : ℕ) → length cs ≡ length vs → 0 < length vs

@@ -3,3 +3,5 @@ pub mod Access
 pub mod Rule
 pub mod Entry
 pub mod Walk
+pub mod Reference
+pub mod Laws

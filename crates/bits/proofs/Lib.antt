@@ -3,5 +3,6 @@ pub mod BitLaws
 pub mod WordLaws
 pub mod WithBit
 pub mod AllBelow
+pub mod Each
 pub mod LittleEndianLaws
 pub mod Tells

@@ -181,10 +181,6 @@ abbrev pub AllFit : List Write → Type 0
 AllFit [] = Unit {0}
 AllFit (w ∷ ws) = (w .value < 2 ^ widthBits (w .field)) × AllFit ws
 
-infixr 40 _⊗_
-abbrev pub _⊗_ : {A B : Type 0} → A → B → A × B
-a ⊗ b = (a, b)
-
 -- a test of it, for writes of known numbers
 abbrev allFit : List Write → Bool
 allFit [] = true

@@ -10,6 +10,7 @@ use lib.Dec.{eqb, lit<}
 use lib.ListN.{getD, drop}
 use borrow.Author.Tests.{eqb-true, ltb-false}
 use Rattle.bits.specs.LittleEndian.{numberOf, littleEndian, Below}
+use Rattle.bits.proofs.Each.{_⊗_}
 use Rattle.bits.proofs.LittleEndianLaws.{below-drop, little-below}
 use Rattle.bits.specs.Words.{bit, bitNot, low32}
 use Rattle.bits.proofs.Tells.{cond-all}
@@ -49,7 +50,7 @@ use Rattle.vcpu_report.proofs.ReportLaws.{phase-known}
 use Rattle.record.specs.Runs.{All, Numbers, readAll, numbers}
 use Rattle.record.specs.Fitting.{Fitting, VmcsFits, PairFits, FixedFits, CapabilitiesFit, Xcr0Fits}
 use Rattle.record.proofs.FittingLaws.{regs-fits, vmcs-fits, xcr0-fits, in-phase-fits}
-use Rattle.calls.proofs.Fields.{_⊗_, value-fits, applied-fits}
+use Rattle.calls.proofs.Fields.{value-fits, applied-fits}
 use Rattle.record.proofs.Codecs.{registers-read}
 use Rattle.record_edits.proofs.Fits.{reg-fits}
 use Rattle.calls.proofs.SetupFits.{cr-value, cr-mask, word-fits}

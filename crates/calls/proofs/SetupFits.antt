@@ -10,6 +10,7 @@ use lib.Dec.{lit<}
 use lib.ListN.{drop}
 use Rattle.bits.specs.Words.{bit, bitNot, low32, high32}
 use Rattle.bits.specs.LittleEndian.{littleEndian, Below}
+use Rattle.bits.proofs.Each.{_⊗_}
 use Rattle.bits.proofs.LittleEndianLaws.{below-drop, little-below}
 use Rattle.bits.proofs.Tells.{cond-all}
 use Rattle.structs.specs.EPTPointer.{eptPointer}
@@ -24,7 +25,7 @@ use Rattle.vcpu_setup.specs.declared.Features.{Features}
 use Rattle.blocks.specs.SetupLayout as Layout
 use Rattle.blocks.specs.SetupBlock.{hostOf, addressesOf, msrsOf, featuresOf, argumentsOf}
 use Rattle.record.specs.Fitting.{CapabilitiesFit}
-use Rattle.calls.proofs.Fields.{_⊗_, AllFit, all-fit}
+use Rattle.calls.proofs.Fields.{AllFit, all-fit}
 
 -- ---- words
 

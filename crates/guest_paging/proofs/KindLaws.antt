@@ -5,12 +5,14 @@ use mathlib.Core.Bool.{Bool, true, false, cond, not, _&&_, false≢true, true≢
 use mathlib.Core.List.{List, [], _∷_, _++_}
 use mathlib.Core.Logic.{_⊎_, inl, inr}
 use native.Mathlib.Omega.{arith}
+use lib.Dec.{eqb}
 use lib.ListN.{length, getD, drop}
 use Rattle.bits.specs.Words.{bit, maskOf}
 use Rattle.bits.specs.LittleEndian.{littleEndian}
+use Rattle.bits.proofs.Each.{_⊗_}
 use Rattle.bits.proofs.Tells.{both-true}
 use Rattle.guest_paging.specs.Walk.{entrySize, indexOf, placeOf, entryAt, isPage, isPaeTop, reservedHigh, reservedLow, reservedBits, pageAddress, nextTable, cutAddress}
-use Rattle.guest_paging.specs.Reference.{field, Kind, Told, always, large, small, IsTold, Made, kinds, Listed, pde4M, pde32, pte32, pdptePae, pde2MPae, pdePae, ptePae, pml4e, pdpte1G, pdpte, pde2M, pde, pte}
+use Rattle.guest_paging.specs.Reference.{field, Kind, kind, Told, always, large, small, IsTold, Made, kinds, Listed}
 
 -- the address that the walk takes from an entry of a kind: of the page, or of the table below
 abbrev pub addressBy : Kind → ℕ → ℕ → ℕ
@@ -30,10 +32,6 @@ pub record Right (k : Kind) : Type 0 where
   pub low : (e a p : ℕ) → Made (k .offset) (k .pieces) e a p → (p < 2 ^ 52) × (p % 2 ^ 12 ≡ a % 2 ^ 12)
   pub alone : (e a p : ℕ) → e < 256 ^ k .bytes → Made (k .offset) (k .pieces) e (cond (k .page) a 0) p → p ≡ addressBy k e a
 
-by-nxe : {A : Type 0} (f g : Bool → A) → f true ≡ g true → f false ≡ g false → (b : Bool) → f b ≡ g b
-by-nxe f g t s true = t
-by-nxe f g t s false = s
-
 not-both : (a b : Bool) → ((a ≡ true) × (b ≡ true) → ⊥) → (a && b) ≡ false
 not-both true true n = absurd (n (refl, refl))
 not-both true false n = refl
@@ -43,75 +41,96 @@ abbrev pub All : (Kind → Type 0) → List Kind → Type 0
 All P [] = Unit {0}
 All P (k ∷ ks) = P k × All P ks
 
--- an address in a 4-MByte page, of its three parts
-wide : (h m l : ℕ) → h < 256 → m < 1024 → l < 2 ^ 22
-    → let p = h * 2 ^ 32 + m * 2 ^ 22 + l in (p % 2 ^ 22 ≡ l) × ((p / 2 ^ 22 % 1024 ≡ m) × ((p / 2 ^ 32 % 256 ≡ h) × (p < 2 ^ 40)))
-wide h m l x y z = (omega arith, (omega arith, (omega arith, omega arith)))
+-- an address in a 4-MByte page has three parts: bits 32 to 39, bits 22 to 31, and those of the virtual address
+wide-made : (h m a : ℕ) → h < 256 → m < 1024
+    → let p = h * 2 ^ 32 + m * 2 ^ 22 + a % 2 ^ 32 % 2 ^ 22 in (p % 2 ^ 22 ≡ a % 2 ^ 22) × ((p / 2 ^ 22 % 1024 ≡ m) × ((p / 2 ^ 32 % 256 ≡ h) × (p < 2 ^ 40)))
+wide-made h m a x y = (omega arith, (omega arith, (omega arith, omega arith)))
 
-wide-alone : (h m l p : ℕ) → p % 2 ^ 22 ≡ l → p / 2 ^ 22 % 1024 ≡ m → p / 2 ^ 32 % 256 ≡ h → p < 2 ^ 40 → p ≡ h * 2 ^ 32 + m * 2 ^ 22 + l
-wide-alone h m l p x y z w = omega arith
+wide-alone : (h m a p : ℕ) → p % 2 ^ 22 ≡ a % 2 ^ 22 → p / 2 ^ 22 % 1024 ≡ m → p / 2 ^ 32 % 256 ≡ h → p < 2 ^ 40 → p ≡ h * 2 ^ 32 + m * 2 ^ 22 + a % 2 ^ 32 % 2 ^ 22
+wide-alone h m a p x y z w = rw cut (parts (a % 2 ^ 22) x)
+  where
+    cut : a % 2 ^ 32 % 2 ^ 22 ≡ a % 2 ^ 22
+    cut = omega arith
 
-cut : (a : ℕ) → a % 2 ^ 32 % 2 ^ 22 ≡ a % 2 ^ 22
-cut a = omega arith
+    parts : (l : ℕ) → p % 2 ^ 22 ≡ l → p ≡ h * 2 ^ 32 + m * 2 ^ 22 + l
+    parts l q = omega (arith, q, y, z, w)
 
--- how each row of the tables is told, and its place and addresses, by arithmetic on the numbers of the row
+spelt : (m : List ℕ) (at levels bytes : ℕ) → entrySize levels ≡ bytes → entryAt m at levels ≡ littleEndian bytes (drop at m)
+unfolding entrySize entryAt
+spelt m at levels bytes = go (eqb levels 2)
+  where
+    go : (b : Bool) → cond b 4 8 ≡ bytes → cond b (littleEndian 4 (drop at m)) (littleEndian 8 (drop at m)) ≡ littleEndian bytes (drop at m)
+    go true h = rw (← h)
+    go false h = rw (← h)
+
+module _ (k : Kind) where
+  -- a row, of what is shown by computing and by arithmetic on its numbers
+  row-right : entrySize (k .levels) ≡ k .bytes → isPaeTop (k .levels) (k .level) ≡ not (k .rights)
+      → reservedBits (k .levels) (k .level) (k .page) true ≡ maskOf (k .reserved) → reservedBits (k .levels) (k .level) (k .page) false ≡ maskOf (k .reserved ++ k .withoutNxe)
+      → 2 ≤ k .levels → (k .page ≡ false → 2 ≤ k .level) → ((pse : Bool) (e : ℕ) → IsTold (k .told) pse e → isPage (k .levels) (k .level) pse e ≡ k .page)
+      → ((a t : ℕ) → placeOf (k .levels) (k .level) (cutAddress (k .levels) a) t ≡ t + k .bytes * field (k .first) (k .last) a)
+      → ((e a p : ℕ) → Made (k .offset) (k .pieces) e a p → (p < 2 ^ 52) × (p % 2 ^ 12 ≡ a % 2 ^ 12))
+      → ((e a : ℕ) → e < 256 ^ k .bytes → Made (k .offset) (k .pieces) e (cond (k .page) a 0) (addressBy k e a))
+      → ((e a p : ℕ) → e < 256 ^ k .bytes → Made (k .offset) (k .pieces) e (cond (k .page) a 0) p → p ≡ addressBy k e a)
+      → Right k
+  row-right size top some none counted deeper paged placed low makes alone =
+      record {
+        size = size;
+        top = top;
+        reserves = by-nxe some none;
+        counted = counted;
+        deeper = deeper;
+        spells = λ m at. spelt m at (k .levels) (k .bytes) size;
+        paged = paged;
+        placed = placed;
+        low = low;
+        makes = makes;
+        alone = alone;
+      }
+    where
+      by-nxe : reservedBits (k .levels) (k .level) (k .page) true ≡ maskOf (k .reserved) → reservedBits (k .levels) (k .level) (k .page) false ≡ maskOf (k .reserved ++ k .withoutNxe)
+          → (nxe : Bool) → reservedBits (k .levels) (k .level) (k .page) nxe ≡ maskOf (cond nxe (k .reserved) (k .reserved ++ k .withoutNxe))
+      by-nxe s n true = s
+      by-nxe s n false = n
+
+-- what stands past the end of the list is not used
+abbrev none : Kind
+none = kind 0 0 always false 0 0 0 false [] [] 0 []
+
+abbrev nth : ℕ → Kind
+nth n = getD kinds n none
+
+-- each row of the tables
 all-right : All Right kinds
-unfolding entrySize placeOf indexOf cutAddress entryAt isPage isPaeTop reservedHigh reservedLow reservedBits pageAddress
+unfolding entrySize placeOf indexOf cutAddress isPage isPaeTop reservedHigh reservedLow reservedBits pageAddress
 all-right =
-    (record {
-      size = refl; top = refl; reserves = by-nxe _ _ refl refl; counted = omega arith; deeper = λ h. absurd (true≢false h); spells = λ m at. refl; paged = λ pse e h. rw (h .0, h .1);
-      placed = λ a t. omega arith; low = λ e a p m. (omega (arith, m .1 .1 .1), omega (arith, m .0)); makes = λ e a h. let w = wide (e / 2 ^ 13 % 256) (e / 2 ^ 22 % 1024) (a % 2 ^ 32 % 2 ^ 22) (omega arith) (omega arith) (omega arith) in (w .0 ∙ cut a, w .1);
-      alone = λ e a p h m. wide-alone (e / 2 ^ 13 % 256) (e / 2 ^ 22 % 1024) (a % 2 ^ 32 % 2 ^ 22) p (m .0 ∙ sym (cut a)) (m .1 .0) (m .1 .1 .0) (m .1 .1 .1);
-    },
-    (record {
-      size = refl; top = refl; reserves = by-nxe _ _ refl refl; counted = omega arith; deeper = λ h. omega arith; spells = λ m at. refl; paged = λ pse e h. not-both pse (bit 7 e) h;
-      placed = λ a t. omega arith; low = λ e a p m. (omega (arith, m .1 .1), omega (arith, m .0)); makes = λ e a h. (omega arith, (omega arith, omega arith)); alone = λ e a p h m. omega (arith, m .0, m .1 .0, m .1 .1);
-    },
-    (record {
-      size = refl; top = refl; reserves = by-nxe _ _ refl refl; counted = omega arith; deeper = λ h. absurd (true≢false h); spells = λ m at. refl; paged = λ pse e h. refl;
-      placed = λ a t. omega arith; low = λ e a p m. (omega (arith, m .1 .1), omega (arith, m .0)); makes = λ e a h. (omega arith, (omega arith, omega arith)); alone = λ e a p h m. omega (arith, m .0, m .1 .0, m .1 .1);
-    },
-    (record {
-      size = refl; top = refl; reserves = by-nxe _ _ refl refl; counted = omega arith; deeper = λ h. omega arith; spells = λ m at. refl; paged = λ pse e h. refl;
-      placed = λ a t. omega arith; low = λ e a p m. (omega (arith, m .1 .1), omega (arith, m .0)); makes = λ e a h. (omega arith, (omega arith, omega arith)); alone = λ e a p h m. omega (arith, m .0, m .1 .0, m .1 .1);
-    },
-    (record {
-      size = refl; top = refl; reserves = by-nxe _ _ refl refl; counted = omega arith; deeper = λ h. absurd (true≢false h); spells = λ m at. refl; paged = λ pse e h. rw (h .0, h .1);
-      placed = λ a t. omega arith; low = λ e a p m. (omega (arith, m .1 .1), omega (arith, m .0)); makes = λ e a h. (omega arith, (omega arith, omega arith)); alone = λ e a p h m. omega (arith, m .0, m .1 .0, m .1 .1);
-    },
-    (record {
-      size = refl; top = refl; reserves = by-nxe _ _ refl refl; counted = omega arith; deeper = λ h. omega arith; spells = λ m at. refl; paged = λ pse e h. not-both pse (bit 7 e) h;
-      placed = λ a t. omega arith; low = λ e a p m. (omega (arith, m .1 .1), omega (arith, m .0)); makes = λ e a h. (omega arith, (omega arith, omega arith)); alone = λ e a p h m. omega (arith, m .0, m .1 .0, m .1 .1);
-    },
-    (record {
-      size = refl; top = refl; reserves = by-nxe _ _ refl refl; counted = omega arith; deeper = λ h. absurd (true≢false h); spells = λ m at. refl; paged = λ pse e h. refl;
-      placed = λ a t. omega arith; low = λ e a p m. (omega (arith, m .1 .1), omega (arith, m .0)); makes = λ e a h. (omega arith, (omega arith, omega arith)); alone = λ e a p h m. omega (arith, m .0, m .1 .0, m .1 .1);
-    },
-    (record {
-      size = refl; top = refl; reserves = by-nxe _ _ refl refl; counted = omega arith; deeper = λ h. omega arith; spells = λ m at. refl; paged = λ pse e h. refl;
-      placed = λ a t. omega arith; low = λ e a p m. (omega (arith, m .1 .1), omega (arith, m .0)); makes = λ e a h. (omega arith, (omega arith, omega arith)); alone = λ e a p h m. omega (arith, m .0, m .1 .0, m .1 .1);
-    },
-    (record {
-      size = refl; top = refl; reserves = by-nxe _ _ refl refl; counted = omega arith; deeper = λ h. absurd (true≢false h); spells = λ m at. refl; paged = λ pse e h. rw (h .0, h .1);
-      placed = λ a t. omega arith; low = λ e a p m. (omega (arith, m .1 .1), omega (arith, m .0)); makes = λ e a h. (omega arith, (omega arith, omega arith)); alone = λ e a p h m. omega (arith, m .0, m .1 .0, m .1 .1);
-    },
-    (record {
-      size = refl; top = refl; reserves = by-nxe _ _ refl refl; counted = omega arith; deeper = λ h. omega arith; spells = λ m at. refl; paged = λ pse e h. not-both pse (bit 7 e) h;
-      placed = λ a t. omega arith; low = λ e a p m. (omega (arith, m .1 .1), omega (arith, m .0)); makes = λ e a h. (omega arith, (omega arith, omega arith)); alone = λ e a p h m. omega (arith, m .0, m .1 .0, m .1 .1);
-    },
-    (record {
-      size = refl; top = refl; reserves = by-nxe _ _ refl refl; counted = omega arith; deeper = λ h. absurd (true≢false h); spells = λ m at. refl; paged = λ pse e h. rw (h .0, h .1);
-      placed = λ a t. omega arith; low = λ e a p m. (omega (arith, m .1 .1), omega (arith, m .0)); makes = λ e a h. (omega arith, (omega arith, omega arith)); alone = λ e a p h m. omega (arith, m .0, m .1 .0, m .1 .1);
-    },
-    (record {
-      size = refl; top = refl; reserves = by-nxe _ _ refl refl; counted = omega arith; deeper = λ h. omega arith; spells = λ m at. refl; paged = λ pse e h. not-both pse (bit 7 e) h;
-      placed = λ a t. omega arith; low = λ e a p m. (omega (arith, m .1 .1), omega (arith, m .0)); makes = λ e a h. (omega arith, (omega arith, omega arith)); alone = λ e a p h m. omega (arith, m .0, m .1 .0, m .1 .1);
-    },
-    (record {
-      size = refl; top = refl; reserves = by-nxe _ _ refl refl; counted = omega arith; deeper = λ h. absurd (true≢false h); spells = λ m at. refl; paged = λ pse e h. refl;
-      placed = λ a t. omega arith; low = λ e a p m. (omega (arith, m .1 .1), omega (arith, m .0)); makes = λ e a h. (omega arith, (omega arith, omega arith)); alone = λ e a p h m. omega (arith, m .0, m .1 .0, m .1 .1);
-    },
-    tt)))))))))))))
+    row-right (nth 0) refl refl refl refl (omega arith) (λ h. absurd (true≢false h)) (λ pse e h. rw (h .0, h .1)) (λ a t. omega arith)
+    (λ e a p m. (omega (arith, m .1 .1 .1), omega (arith, m .0))) (λ e a h. wide-made (e / 2 ^ 13 % 256) (e / 2 ^ 22 % 1024) a (omega arith) (omega arith)) (λ e a p h m. wide-alone (e / 2 ^ 13 % 256) (e / 2 ^ 22 % 1024) a p (m .0) (m .1 .0) (m .1 .1 .0) (m .1 .1 .1))
+    ⊗ row-right (nth 1) refl refl refl refl (omega arith) (λ h. omega arith) (λ pse e h. not-both pse (bit 7 e) h) (λ a t. omega arith)
+    (λ e a p m. (omega (arith, m .1 .1), omega (arith, m .0))) (λ e a h. (omega arith, (omega arith, omega arith))) (λ e a p h m. omega (arith, m .0, m .1 .0, m .1 .1))
+    ⊗ row-right (nth 2) refl refl refl refl (omega arith) (λ h. absurd (true≢false h)) (λ pse e h. refl) (λ a t. omega arith)
+    (λ e a p m. (omega (arith, m .1 .1), omega (arith, m .0))) (λ e a h. (omega arith, (omega arith, omega arith))) (λ e a p h m. omega (arith, m .0, m .1 .0, m .1 .1))
+    ⊗ row-right (nth 3) refl refl refl refl (omega arith) (λ h. omega arith) (λ pse e h. refl) (λ a t. omega arith)
+    (λ e a p m. (omega (arith, m .1 .1), omega (arith, m .0))) (λ e a h. (omega arith, (omega arith, omega arith))) (λ e a p h m. omega (arith, m .0, m .1 .0, m .1 .1))
+    ⊗ row-right (nth 4) refl refl refl refl (omega arith) (λ h. absurd (true≢false h)) (λ pse e h. rw (h .0, h .1)) (λ a t. omega arith)
+    (λ e a p m. (omega (arith, m .1 .1), omega (arith, m .0))) (λ e a h. (omega arith, (omega arith, omega arith))) (λ e a p h m. omega (arith, m .0, m .1 .0, m .1 .1))
+    ⊗ row-right (nth 5) refl refl refl refl (omega arith) (λ h. omega arith) (λ pse e h. not-both pse (bit 7 e) h) (λ a t. omega arith)
+    (λ e a p m. (omega (arith, m .1 .1), omega (arith, m .0))) (λ e a h. (omega arith, (omega arith, omega arith))) (λ e a p h m. omega (arith, m .0, m .1 .0, m .1 .1))
+    ⊗ row-right (nth 6) refl refl refl refl (omega arith) (λ h. absurd (true≢false h)) (λ pse e h. refl) (λ a t. omega arith)
+    (λ e a p m. (omega (arith, m .1 .1), omega (arith, m .0))) (λ e a h. (omega arith, (omega arith, omega arith))) (λ e a p h m. omega (arith, m .0, m .1 .0, m .1 .1))
+    ⊗ row-right (nth 7) refl refl refl refl (omega arith) (λ h. omega arith) (λ pse e h. refl) (λ a t. omega arith)
+    (λ e a p m. (omega (arith, m .1 .1), omega (arith, m .0))) (λ e a h. (omega arith, (omega arith, omega arith))) (λ e a p h m. omega (arith, m .0, m .1 .0, m .1 .1))
+    ⊗ row-right (nth 8) refl refl refl refl (omega arith) (λ h. absurd (true≢false h)) (λ pse e h. rw (h .0, h .1)) (λ a t. omega arith)
+    (λ e a p m. (omega (arith, m .1 .1), omega (arith, m .0))) (λ e a h. (omega arith, (omega arith, omega arith))) (λ e a p h m. omega (arith, m .0, m .1 .0, m .1 .1))
+    ⊗ row-right (nth 9) refl refl refl refl (omega arith) (λ h. omega arith) (λ pse e h. not-both pse (bit 7 e) h) (λ a t. omega arith)
+    (λ e a p m. (omega (arith, m .1 .1), omega (arith, m .0))) (λ e a h. (omega arith, (omega arith, omega arith))) (λ e a p h m. omega (arith, m .0, m .1 .0, m .1 .1))
+    ⊗ row-right (nth 10) refl refl refl refl (omega arith) (λ h. absurd (true≢false h)) (λ pse e h. rw (h .0, h .1)) (λ a t. omega arith)
+    (λ e a p m. (omega (arith, m .1 .1), omega (arith, m .0))) (λ e a h. (omega arith, (omega arith, omega arith))) (λ e a p h m. omega (arith, m .0, m .1 .0, m .1 .1))
+    ⊗ row-right (nth 11) refl refl refl refl (omega arith) (λ h. omega arith) (λ pse e h. not-both pse (bit 7 e) h) (λ a t. omega arith)
+    (λ e a p m. (omega (arith, m .1 .1), omega (arith, m .0))) (λ e a h. (omega arith, (omega arith, omega arith))) (λ e a p h m. omega (arith, m .0, m .1 .0, m .1 .1))
+    ⊗ row-right (nth 12) refl refl refl refl (omega arith) (λ h. absurd (true≢false h)) (λ pse e h. refl) (λ a t. omega arith)
+    (λ e a p m. (omega (arith, m .1 .1), omega (arith, m .0))) (λ e a h. (omega arith, (omega arith, omega arith))) (λ e a p h m. omega (arith, m .0, m .1 .0, m .1 .1))
+    ⊗ tt
 
 right-in : (ks : List Kind) → All Right ks → (k : Kind) → Listed k ks → Right k
 right-in [] r k h = absurd h
@@ -130,14 +149,14 @@ pub record Found (levels level : ℕ) (pse : Bool) (e : ℕ) : Type 0 where
   pub level-is : kind .level ≡ level
   pub told : IsTold (kind .told) pse e
 
-listed-at : (n : ℕ) (ks : List Kind) → n < length ks → Listed (getD ks n pte) ks
+listed-at : (n : ℕ) (ks : List Kind) → n < length ks → Listed (getD ks n none) ks
 listed-at n [] h = absurd (omega arith)
 listed-at zero (k ∷ ks) h = inl refl
 listed-at (suc n) (k ∷ ks) h = inr (listed-at n ks (omega arith))
 
 module _ (pse : Bool) (e : ℕ) where
-  row : (n : ℕ) → n < 13 → IsTold (getD kinds n pte .told) pse e → Found (getD kinds n pte .levels) (getD kinds n pte .level) pse e
-  row n h t = record { kind = getD kinds n pte; listed = listed-at n kinds h; levels-are = refl; level-is = refl; told = t }
+  row : (n : ℕ) → n < 13 → IsTold (nth n .told) pse e → Found (nth n .levels) (nth n .level) pse e
+  row n h t = record { kind = nth n; listed = listed-at n kinds h; levels-are = refl; level-is = refl; told = t }
 
   pick : {F : Type 0} → (IsTold large pse e → F) → (IsTold small pse e → F) → F
   pick {F} f g = go (pse && bit 7 e) refl

@@ -45,6 +45,7 @@ level-more m more i a l t u = go (ltb (length m) (placeOf (i .level) l a t + ent
   where
     at : ℕ
     at = placeOf (i .level) l a t
+
     go : (b : Bool) → ltb (length m) (at + entrySize (i .level)) ≡ b
         → cond b (Ends (Refused 26)) (entryGives i a l u (entryAt m at (i .level))) ≢ Ends (Refused 26)
         → cond (ltb (length (m ++ more)) (at + entrySize (i .level))) (Ends (Refused 26)) (entryGives i a l u (entryAt (m ++ more) at (i .level)))
@@ -76,6 +77,7 @@ longer m more i a = go (eqb (i .level) 0)
   where
     walk : List ℕ → Walked
     walk b = walkFrom b i (cutAddress (i .level) a) (i .level) (topTable (i .level) (i .«top_entry»)) true
+
     go : (b : Bool) → cond b (Address a) (walk m) ≢ Refused 26 → cond b (Address a) (walk (m ++ more)) ≡ cond b (Address a) (walk m)
     go true n = refl
     go false n = walk-more m more i (cutAddress (i .level) a) (i .level) (topTable (i .level) (i .«top_entry»)) true n

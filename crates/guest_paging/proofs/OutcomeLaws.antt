@@ -90,8 +90,10 @@ module _ (m : List ℕ) (typed : BelowAll 256 m) (i : GuestPageWalkInfo) (a : �
     where
       n : ℕ
       n = numberAt i (suc l) x xs
+
       P : Next → Type 0
       P s = Outcome m i a (goneOn s (λ t u. walkFrom m i (cutAddress (i .level) a) l t u))
+
       judged : (r : ℕ) → n ≡ r → Judged m i a (suc l) r x
       judged r e =
           record {
@@ -101,6 +103,7 @@ module _ (m : List ℕ) (typed : BelowAll 256 m) (i : GuestPageWalkInfo) (a : �
             meets = w;
             judged = subst (Refuses (entryRules i x ++ pageRules i x xs)) e (met-judged m typed i a w xs (opens xs (suc l) t p));
           }
+
       alone : eqb n 0 ≡ true → Refuses (entryRules i x) 0
       alone z = subst (Refuses (entryRules i x)) (both-zero _ _ (eqb-true n 0 z) .0) (met-alone m typed i a w)
 
@@ -112,10 +115,13 @@ module _ (m : List ℕ) (typed : BelowAll 256 m) (i : GuestPageWalkInfo) (a : �
     where
       e : ℕ
       e = entryAt m (placeOf (i .level) (suc l) (cutAddress (i .level) a) t) (i .level)
+
       f : Found (i .level) (suc l) (i .pse) e
       f = found (i .pse) e (i .level) (suc l) paging (omega arith) (omega (arith, counted xs (suc l) t p))
+
       o : OfLevel m i a (f .kind) (suc l)
       o = record { listed = f .listed; levels = f .levels-are; level-is = f .level-is }
+
       go : (b : Bool) → ltb (length m) (place m i a (f .kind) t + f .kind .bytes) ≡ b
           → Outcome m i a (goneOn (levelGives m i (cutAddress (i .level) a) (suc l) t (opened i xs)) (λ t u. walkFrom m i (cutAddress (i .level) a) l t u))
       go true h = rw (past-gives m typed i a o t (opened i xs) (ltb-true _ _ h)) (past xs (suc l) t (f .kind) p o (ltb-true _ _ h))

@@ -38,6 +38,7 @@ by-number r b p w n l = go (eqb r 0) refl
     page : (q : Bool) → cond q (Ends (cond (eqb b 0) (Address w) (Fails l b))) n ≡ cond (eqb (cond q b 0) 0) (cond q (Ends (Address w)) n) (Ends (Fails l (cond q b 0)))
     page true = ends-of (eqb b 0) (Address w) (Fails l b)
     page false = refl
+
     go : (t : Bool) → eqb r 0 ≡ t
         → cond t (cond p (Ends (cond (eqb b 0) (Address w) (Fails l b))) n) (Ends (Fails l r))
         ≡ cond (eqb (cond t (cond p b 0) r) 0) (cond p (Ends (Address w)) n) (Ends (Fails l (cond t (cond p b 0) r)))

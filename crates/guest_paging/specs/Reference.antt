@@ -84,106 +84,44 @@ pub record Kind : Type 0 where
   pub offset : ℕ
   pub pieces : List Piece
 
--- 32-bit paging: page-directory entries that map a 4-MByte page (table 4-4) and that lead to a page table (4-5), page-table entries (4-6)
-
-abbrev pub pde4M : Kind
-pde4M =
+abbrev pub kind : ℕ → ℕ → Told → Bool → ℕ → ℕ → ℕ → Bool → List ℕ → List ℕ → ℕ → List Piece → Kind
+kind levels level told page first last bytes rights reserved withoutNxe offset pieces =
     record {
-      levels = 2; level = 2; told = large; page = true; first = 22; last = 31; bytes = 4; rights = true; reserved = 21 ∷ []; withoutNxe = [];
-      offset = 22; pieces = piece 22 31 22 ∷ piece 32 39 13 ∷ [];
+      levels = levels;
+      level = level;
+      told = told;
+      page = page;
+      first = first;
+      last = last;
+      bytes = bytes;
+      rights = rights;
+      reserved = reserved;
+      withoutNxe = withoutNxe;
+      offset = offset;
+      pieces = pieces;
     }
 
-abbrev pub pde32 : Kind
-pde32 =
-    record {
-      levels = 2; level = 2; told = small; page = false; first = 22; last = 31; bytes = 4; rights = true; reserved = []; withoutNxe = [];
-      offset = 12; pieces = piece 12 31 12 ∷ [];
-    }
-
-abbrev pub pte32 : Kind
-pte32 =
-    record {
-      levels = 2; level = 1; told = always; page = true; first = 12; last = 21; bytes = 4; rights = true; reserved = []; withoutNxe = [];
-      offset = 12; pieces = piece 12 31 12 ∷ [];
-    }
-
--- PAE paging: page-directory-pointer-table entries (table 4-8), page-directory entries that map a 2-MByte page (4-9) and that lead to a page table (4-10), page-table entries (4-11)
-
-abbrev pub pdptePae : Kind
-pdptePae =
-    record {
-      levels = 3; level = 3; told = always; page = false; first = 30; last = 31; bytes = 8; rights = false; reserved = 1 ∷ 2 ∷ through 5 8 ++ through 52 63; withoutNxe = [];
-      offset = 12; pieces = piece 12 51 12 ∷ [];
-    }
-
-abbrev pub pde2MPae : Kind
-pde2MPae =
-    record {
-      levels = 3; level = 2; told = large; page = true; first = 21; last = 29; bytes = 8; rights = true; reserved = through 13 20 ++ through 52 62; withoutNxe = 63 ∷ [];
-      offset = 21; pieces = piece 21 51 21 ∷ [];
-    }
-
-abbrev pub pdePae : Kind
-pdePae =
-    record {
-      levels = 3; level = 2; told = small; page = false; first = 21; last = 29; bytes = 8; rights = true; reserved = through 52 62; withoutNxe = 63 ∷ [];
-      offset = 12; pieces = piece 12 51 12 ∷ [];
-    }
-
-abbrev pub ptePae : Kind
-ptePae =
-    record {
-      levels = 3; level = 1; told = always; page = true; first = 12; last = 20; bytes = 8; rights = true; reserved = through 52 62; withoutNxe = 63 ∷ [];
-      offset = 12; pieces = piece 12 51 12 ∷ [];
-    }
-
--- 4-level paging: PML4 entries (table 4-15), page-directory-pointer-table entries that map a 1-GByte page (4-16) and that lead to a page directory (4-17), page-directory entries that map a
--- 2-MByte page (4-18) and that lead to a page table (4-19), page-table entries (4-20)
-
-abbrev pub pml4e : Kind
-pml4e =
-    record {
-      levels = 4; level = 4; told = always; page = false; first = 39; last = 47; bytes = 8; rights = true; reserved = 7 ∷ []; withoutNxe = 63 ∷ [];
-      offset = 12; pieces = piece 12 51 12 ∷ [];
-    }
-
-abbrev pub pdpte1G : Kind
-pdpte1G =
-    record {
-      levels = 4; level = 3; told = large; page = true; first = 30; last = 38; bytes = 8; rights = true; reserved = through 13 29; withoutNxe = 63 ∷ [];
-      offset = 30; pieces = piece 30 51 30 ∷ [];
-    }
-
-abbrev pub pdpte : Kind
-pdpte =
-    record {
-      levels = 4; level = 3; told = small; page = false; first = 30; last = 38; bytes = 8; rights = true; reserved = []; withoutNxe = 63 ∷ [];
-      offset = 12; pieces = piece 12 51 12 ∷ [];
-    }
-
-abbrev pub pde2M : Kind
-pde2M =
-    record {
-      levels = 4; level = 2; told = large; page = true; first = 21; last = 29; bytes = 8; rights = true; reserved = through 13 20; withoutNxe = 63 ∷ [];
-      offset = 21; pieces = piece 21 51 21 ∷ [];
-    }
-
-abbrev pub pde : Kind
-pde =
-    record {
-      levels = 4; level = 2; told = small; page = false; first = 21; last = 29; bytes = 8; rights = true; reserved = []; withoutNxe = 63 ∷ [];
-      offset = 12; pieces = piece 12 51 12 ∷ [];
-    }
-
-abbrev pub pte : Kind
-pte =
-    record {
-      levels = 4; level = 1; told = always; page = true; first = 12; last = 20; bytes = 8; rights = true; reserved = []; withoutNxe = 63 ∷ [];
-      offset = 12; pieces = piece 12 51 12 ∷ [];
-    }
-
+-- the numbers of a row, in the order of Kind: levels and level, how told, whether a page; index bits, bytes; whether rights, reserved bits, those while NXE is clear; open bits and pieces
 abbrev pub kinds : List Kind
-kinds = pde4M ∷ pde32 ∷ pte32 ∷ pdptePae ∷ pde2MPae ∷ pdePae ∷ ptePae ∷ pml4e ∷ pdpte1G ∷ pdpte ∷ pde2M ∷ pde ∷ pte ∷ []
+kinds =
+    -- 32-bit paging: a page-directory entry that maps a 4-MByte page (table 4-4), one that leads to a page table (4-5), a page-table entry (4-6)
+    kind 2 2 large true 22 31 4 true (21 ∷ []) [] 22 (piece 22 31 22 ∷ piece 32 39 13 ∷ [])
+    ∷ kind 2 2 small false 22 31 4 true [] [] 12 (piece 12 31 12 ∷ [])
+    ∷ kind 2 1 always true 12 21 4 true [] [] 12 (piece 12 31 12 ∷ [])
+    -- PAE paging: a page-directory-pointer-table entry (4-8), a page-directory entry that maps a 2-MByte page (4-9), one that leads to a page table (4-10), a page-table entry (4-11)
+    ∷ kind 3 3 always false 30 31 8 false (1 ∷ 2 ∷ through 5 8 ++ through 52 63) [] 12 (piece 12 51 12 ∷ [])
+    ∷ kind 3 2 large true 21 29 8 true (through 13 20 ++ through 52 62) (63 ∷ []) 21 (piece 21 51 21 ∷ [])
+    ∷ kind 3 2 small false 21 29 8 true (through 52 62) (63 ∷ []) 12 (piece 12 51 12 ∷ [])
+    ∷ kind 3 1 always true 12 20 8 true (through 52 62) (63 ∷ []) 12 (piece 12 51 12 ∷ [])
+    -- 4-level paging: a PML4 entry (4-15), a page-directory-pointer-table entry that maps a 1-GByte page (4-16), one that leads to a page directory (4-17), a page-directory entry that maps
+    -- a 2-MByte page (4-18), one that leads to a page table (4-19), a page-table entry (4-20)
+    ∷ kind 4 4 always false 39 47 8 true (7 ∷ []) (63 ∷ []) 12 (piece 12 51 12 ∷ [])
+    ∷ kind 4 3 large true 30 38 8 true (through 13 29) (63 ∷ []) 30 (piece 30 51 30 ∷ [])
+    ∷ kind 4 3 small false 30 38 8 true [] (63 ∷ []) 12 (piece 12 51 12 ∷ [])
+    ∷ kind 4 2 large true 21 29 8 true (through 13 20) (63 ∷ []) 21 (piece 21 51 21 ∷ [])
+    ∷ kind 4 2 small false 21 29 8 true [] (63 ∷ []) 12 (piece 12 51 12 ∷ [])
+    ∷ kind 4 1 always true 12 20 8 true [] (63 ∷ []) 12 (piece 12 51 12 ∷ [])
+    ∷ []
 
 abbrev pub Listed : Kind → List Kind → Type 0
 Listed k [] = ⊥

@@ -1,2 +1,3 @@
 pub mod WorkedCases
 pub mod TrapSheet
+pub mod PageWalks

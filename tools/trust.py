@@ -13,10 +13,13 @@ EXPORTS = "crates/x86_vcpu/src"
 LISTS = ["crates/calls/specs/DemandThree.antt", "crates/calls/specs/Contracts.antt"]
 CAPABILITY_WORDS = ["crates/calls/specs/CapabilityWords.antt"]
 TRIALS = ["crates/trials/specs/Reference.antt"]
+WALKS = ["crates/guest_paging/specs/Laws.antt"]
 # What the statements judge and so do not rest on: setup; over lists the other steps of a session too, and what is said nothing of (the words of an answer).
 SETUP = {"setupOf", "ioBitmapSet", "msrBitmapSet"}
 # Of trials: the trial, and the calls, of which it says that a trial tells them, whatever they do.
 TRIED = {"trialOf", "reportCall", "entryCall", "portCall", "msrCall"}
+# Of page walks: the walk.
+WALKED = {"pageWalkOf"}
 STEPS = SETUP | {"queueEvent", "injectInterrupt", "entry", "writeField", "setRegister", "apicValue", "exitReport", "answerWords"}
 # Files that tools/vmcs_names.py and tools/exit_reasons.py write.
 GENERATED = re.compile(r"/Names/|/(Named|VmxExitReason|ExitReasons)\.antt$")
@@ -116,7 +119,7 @@ class Reading:
         for crate, path in self.types:
             *folders, name = path.split(".")
             code = open("crates/%s/src/%s.rt" % (crate, "/".join(folders) or "lib")).read()
-            total += len(content(re.search(r"^pub (struct|enum) %s \{.*?^\}" % name, code, re.S | re.M).group(0)))
+            total += len(content(re.search(r"^(?:pub )?(struct|enum) %s \{.*?^\}" % name, code, re.S | re.M).group(0)))
         return total
 
     def row(self, what):
@@ -165,9 +168,9 @@ def crate_row(name):
 
 def main():
     (contracts, functions), lists, words = exports(), statements(LISTS, STEPS), statements(CAPABILITY_WORDS, SETUP)
-    trials = statements(TRIALS, TRIED)
+    trials, walks = statements(TRIALS, TRIED), statements(WALKS, WALKED)
     if "--list" in sys.argv:
-        for reading in (contracts, lists, words, trials):
+        for reading in (contracts, lists, words, trials, walks):
             for path, number in sorted(reading.blocks):
                 print(path, reading.modules[path].blocks[number][0].strip())
             print("types:", *sorted("%s::%s" % each for each in reading.types), "\n")
@@ -177,6 +180,7 @@ def main():
     print(lists.row("`whole-list`, and that its steps are the contracts"))
     print(words.row("`not-looked-at` and `older-board`"))
     print(trials.row("`six-trials`, beside the calls"))
+    print(walks.row("`session-walks`, beside the reading"))
     crates = [line.split(":")[0] for line in open("crates.txt") if re.match(r"[a-z0-9_]+:", line)]
     rows = [crate_row(name) for name in crates if not os.path.exists(f"crates/{name}/src/main.rt")]
     print("\n| crate | functions | code | definitions | proofs |\n|---|---|---|---|---|")

@@ -2,9 +2,9 @@
  * A small host, with the processor played by arrays. It does what a hypervisor does around the core: it makes a session, sets it up from the processor's
  * capability words (and shows words that are refused, those of an older board among them), edits intercepts, with the trap sheet before and after, and queues
  * events; for each exit it enters the guest, carries fields and registers to the processor and back, reports the exit (one report is tried first), and does what
- * the core answers. After each call it writes to the processor the fields that the header names and no others; at each entry all 154 are compared, and those in
- * which processor and record differ are counted. Arrays refuse no entry: examples/emulated is a host on processors that do, with all that the header's section
- * "What the host does" says.
+ * the core answers. Once the guest has paging on, two of its addresses are walked. After each call it writes to the processor the fields that the header names and no
+ * others; at each entry all 154 are compared, and those in which processor and record differ are counted. Arrays refuse no entry: examples/emulated is a host on
+ * processors that do, with all that the header's section "What the host does" says.
  */
 #include "x86_vcpu.h"
 
@@ -34,7 +34,7 @@ enum { RAX, RCX, RDX };
 /* Bits of XCR0: the host uses x87 and SSE, and the processor has AVX besides. */
 enum { HOST_XCR0 = 3, SUPPORTED_XCR0 = 7 };
 
-/* ---- The processor: its capability MSRs, the fields of its VMCS by encoding, the registers that the guest runs with, XCR0, and its guest ---- */
+/* ---- The processor: its capability MSRs, the fields of its VMCS by encoding, the registers that the guest runs with, XCR0, and its guest with its memory ---- */
 
 /* The capability MSRs 0x480 to 0x484, 0x486 to 0x489, 0x48B, 0x48D to 0x490, by their place in the block of setup. */
 enum { BASIC, SECONDARY = 9, TRUE_PIN, TRUE_ENTRY = 13, WORDS };
@@ -45,6 +45,7 @@ static const uint64_t usual_words[WORDS] = {
 };
 
 static uint64_t words[WORDS], fields[0x8000], guest[16], xcr0;
+static uint8_t guest_memory[0x9000];
 
 /* The TRUE words are there where bit 55 of IA32_VMX_BASIC is set. To read an MSR that is not there is a fault, at which this host stops. */
 static uint64_t rdmsr(unsigned place)
@@ -66,6 +67,22 @@ static void vmwrite(uint64_t encoding, uint64_t x)
     fields[encoding] = x;
 }
 
+static void put(uint8_t *bytes, unsigned at, unsigned size, uint64_t x)
+{
+    for (; size--; at++, x >>= 8)
+        bytes[at] = (uint8_t)x;
+}
+
+/* The guest's page tables, of four levels: the page of its code, 0x8000, is mapped to itself, the next one to 0x7000, and no other. */
+static void make_tables(void)
+{
+    put(guest_memory, 0x1000, 8, 0x2003);
+    put(guest_memory, 0x2000, 8, 0x3003);
+    put(guest_memory, 0x3000, 8, 0x4003);
+    put(guest_memory, 0x4040, 8, 0x8003);
+    put(guest_memory, 0x4048, 8, 0x7003);
+}
+
 /* An exit: what the guest does, the full reason, the qualification, the instruction's length, RAX and RCX. */
 struct exit {
     const char *what;
@@ -82,9 +99,12 @@ static void run_guest(const struct exit *e)
         return;
     guest[RAX] = e->rax;
     guest[RCX] = e->rcx;
-    /* on its way to long mode the guest has set EFER.LME, which is not trapped */
-    if (e->reason == 28)
+    /* on its way to long mode the guest has made its tables, loaded CR3 and set EFER.LME, which are not trapped */
+    if (e->reason == 28) {
+        make_tables();
+        vmwrite(VmcsGuestNW_CR3, 0x1000);
         vmwrite(VmcsGuest64_IA32_EFER, 0x100);
+    }
     /* the high half of what the guest loads into XCR0 */
     if (e->reason == 55)
         guest[RDX] = 0;
@@ -100,12 +120,6 @@ static void run_guest(const struct exit *e)
 static uint8_t record[VCPU_RECORD_LENGTH], io_a[VCPU_FRAME_LENGTH], io_b[VCPU_FRAME_LENGTH], msrs[VCPU_FRAME_LENGTH];
 static uint8_t arguments[VCPU_SETUP_LENGTH], report[VCPU_REPORT_LENGTH];
 static unsigned differing;
-
-static void put(uint8_t *bytes, unsigned at, unsigned size, uint64_t x)
-{
-    for (; size--; at++, x >>= 8)
-        bytes[at] = (uint8_t)x;
-}
 
 static uint64_t get(const uint8_t *bytes, unsigned at, unsigned size)
 {
@@ -400,6 +414,22 @@ static void enter_and_report(const struct exit *e)
     hand_in(e->what);
 }
 
+/* ---- The guest's addresses ---- */
+
+static void walk(const char *what, uint64_t address, uint8_t kind)
+{
+    uint64_t answer[3];
+    uint32_t number = vcpu_page_walk(record, sizeof record, guest_memory, sizeof guest_memory, address, kind, answer);
+
+    printf("walk of a %s at 0x%" PRIX64 ": ", what, address);
+    if (number)
+        printf("refused %" PRIu32 "\n", number);
+    else if (answer[0] == VCPU_WALKED_ADDRESS)
+        printf("address 0x%" PRIX64 "\n", answer[1]);
+    else
+        printf("fails at level %" PRIu64 " by rule %" PRIu64 "\n", answer[1], answer[2]);
+}
+
 /* ---- The run ---- */
 
 static const struct exit window = {"interrupt window", 7, 0, 0, 0, 0};
@@ -478,6 +508,8 @@ int main(int argc, char **argv)
         enter_and_report(&exits[i]);
     printf("CR0 0x%" PRIX64 ", CR4 0x%" PRIX64 ", EFER 0x%" PRIX64 ", entry controls 0x%" PRIX64 "\n", vmread(VmcsGuestNW_CR0), vmread(VmcsGuestNW_CR4),
            vmread(VmcsGuest64_IA32_EFER), vmread(VmcsControl32_VMENTRY_CONTROLS));
+    walk("read", 0x9ABC, VCPU_ACCESS_READ);
+    walk("write", 0xA000, VCPU_ACCESS_WRITE);
     report_twice(&power_off);
     enter_and_report(&failed_entry);
     enter();

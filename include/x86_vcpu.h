@@ -32,8 +32,9 @@ extern "C" {
 /* The session is in another phase than the call needs. */
 #define VCPU_REFUSED_PHASE 1
 /*
- * A buffer has another length than the function asks for, a yes/no argument (of a call or in the block of setup) is neither 0 nor 1, or the bytes are
- * no record: its phase is above 4, more than 64 events wait, it has more held entries than entries, or its byte launched is neither 0 nor 1.
+ * A buffer has another length than the function asks for, a yes/no argument (of a call or in the block of setup) is neither 0 nor 1, a kind of access is
+ * above 2, or the bytes are no record: its phase is above 4, more than 64 events wait, it has more held entries than entries, or its byte launched is neither
+ * 0 nor 1.
  */
 #define VCPU_REFUSED_BYTES 2
 /* Fields: no such encoding; a write of a read-only field; a value wider than the field. */
@@ -86,6 +87,8 @@ extern "C" {
 #define VCPU_REFUSED_ROOM 24
 /* Trials: a second buffer has another length than the first that it stands for. */
 #define VCPU_REFUSED_SHOWN 25
+/* Page walks: a byte of an entry lies past the end of the memory. */
+#define VCPU_REFUSED_MEMORY 26
 
 /* ---- Sizes ---- */
 
@@ -558,6 +561,52 @@ uint32_t vcpu_get_cpu_mode(const uint8_t *record, size_t length, uint64_t host_e
 uint32_t vcpu_get_ptw_info(const uint8_t *record, size_t length, uint64_t *top_entry, uint8_t *level, uint8_t *width, uint32_t *flags);
 
 /*
+ * Walks the guest's page tables (SDM 3A, chapter 4): from a guest-virtual address to the guest-physical one, or to the reason why the guest itself would fault there.
+ * It starts from what vcpu_get_ptw_info reads: CR0, CR3, CR4, EFER and the access rights of SS as the record has them, which each report brings. Whether the access
+ * writes or fetches is told by its kind (VCPU_ACCESS_). The phase is not looked at. Record and memory are only read.
+ * - memory holds the guest's physical memory from address 0 on, and may have any length, 0 too. The entries that the walk meets must lie in it, the page need not.
+ * - The answer is three words: VCPU_WALKED_ADDRESS, the address, 0; or VCPU_WALKED_FAILS, the level of the entry at which the walk fails, the rule (VCPU_RULE_) that
+ *   this entry breaks.
+ * - Without paging (0 levels) the answer is the address itself, with all its bits, whatever memory is.
+ * - With 4 levels bits 0 to 47 of the address count, with 3 and 2 bits 0 to 31. The others are ignored: whether the address is canonical is not judged.
+ * - The top table is at bits 12 to 51 of CR3 with 4 levels, bits 5 to 31 with 3, bits 12 to 31 with 2; the others are ignored. The four top entries of PAE paging
+ *   (3 levels) are read from memory, not from the fields 0x280A to 0x2810.
+ * - An entry has 8 bytes, with 2 levels 4. It maps a page at level 1; at level 2 where bit 7 is set, with 2 levels only if CR4.PSE is set too; and at level 3 of 4 where
+ *   bit 7 is set, since 1-GByte pages count as supported. Every other entry leads to the table below. Physical addresses have 52 bits, that of a 4-MByte page 40 (PSE-36).
+ * - The walk goes from the top level down. If a byte of the next entry lies past the end of memory the call is refused by VCPU_REFUSED_MEMORY; else all rules that the
+ *   entry can break are judged, in the order of their numbers, before another is read. So the answer is the first rule broken by the first entry that breaks one:
+ *   VCPU_RULE_USER at level 4 comes before VCPU_RULE_NOT_PRESENT at level 3, and before VCPU_REFUSED_MEMORY there.
+ * - There are no protection keys, RFLAGS.AC counts as clear, and accessed and dirty bits are neither judged nor set.
+ * Refusals: VCPU_REFUSED_BYTES (the record, or a kind above 2, also without paging), VCPU_REFUSED_MEMORY.
+ */
+#define VCPU_ACCESS_READ 0
+#define VCPU_ACCESS_WRITE 1
+#define VCPU_ACCESS_FETCH 2
+#define VCPU_WALKED_ADDRESS 0
+#define VCPU_WALKED_FAILS 1
+/* Bit 0 is 0. */
+#define VCPU_RULE_NOT_PRESENT 1
+/*
+ * A reserved bit is 1. 4 levels: bit 63 if EFER.NXE is clear; bit 7 at level 4; bits 13 to 29 of a 1-GByte page; bits 13 to 20 of a 2-MByte page. 3 levels: at level 3
+ * bits 1, 2, 5 to 8 and 52 to 63; below it bits 52 to 62, bit 63 if EFER.NXE is clear, bits 13 to 20 of a 2-MByte page. 2 levels: bit 21 of a 4-MByte page.
+ */
+#define VCPU_RULE_RESERVED 2
+/*
+ * User: the access is the user's and bit 2 is 0. Write: it is a write and bit 1 is 0; of a supervisor only if CR0.WP is set. Execute: it is a fetch, EFER.NXE is set
+ * and bit 63 is 1; never with 2 levels. The top entries of PAE paging break none of these three.
+ */
+#define VCPU_RULE_USER 3
+#define VCPU_RULE_WRITE 4
+#define VCPU_RULE_EXECUTE 5
+/*
+ * Judged at the page alone, and broken only if bit 2 is 1 in every entry met but the top one of PAE paging: SMEP, by a supervisor's fetch if CR4.SMEP is set; SMAP, by
+ * a supervisor's read or write if CR4.SMAP is set.
+ */
+#define VCPU_RULE_SMEP 6
+#define VCPU_RULE_SMAP 7
+uint32_t vcpu_page_walk(const uint8_t *record, size_t length, const uint8_t *memory, size_t memory_length, uint64_t address, uint8_t kind, uint64_t *answer);
+
+/*
  * A guest address with the base of its code segment added (none in 64-bit mode).
  * Refusals: VCPU_REFUSED_BYTES, VCPU_REFUSED_SUM.
  */
@@ -680,6 +729,7 @@ uint32_t vcpu_try_msr_intercept_of_range(const uint8_t *frame, size_t length, ui
     F(vcpu_get_xcr0, 64)                    \
     F(vcpu_get_cpu_mode, 64)                \
     F(vcpu_get_ptw_info, 64)                \
+    F(vcpu_page_walk, 768)                  \
     F(vcpu_gla2gva, 64)                     \
     F(vcpu_set_control, 64)                 \
     F(vcpu_set_io_intercept_of_range, 128)  \

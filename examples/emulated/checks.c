@@ -61,6 +61,19 @@ void check_entry(void)
         say("refuses: %s\n", why);
 }
 
+/* The core's walk leads from the address of the VMCALL that exited, three bytes before RIP, to its bytes: the processor fetched them through the same tables. */
+static void check_walk(uint64_t rip)
+{
+    uint64_t walked[3] = {9, 9, 9};
+    uint32_t bytes = 0;
+
+    vcpu_page_walk(record, sizeof record, memory, 4096 * GUEST_PAGES, rip - 3, VCPU_ACCESS_FETCH, walked);
+    check("walk of the VMCALL", walked[0], VCPU_WALKED_ADDRESS);
+    if (walked[1] <= 4096 * GUEST_PAGES - 3)
+        memcpy(&bytes, memory + walked[1], 3);
+    check("bytes of the VMCALL", bytes, 0xC1010F);
+}
+
 /* The core's readings beside what the guest says of itself. Its bases are 0, its accesses the supervisor's. */
 void check_mode(uint64_t mode, uint64_t levels)
 {
@@ -78,6 +91,17 @@ void check_mode(uint64_t mode, uint64_t levels)
     check("bits of a level", width, widths[levels]);
     check("top of the walk", top, vmread(VmcsGuestNW_CR3));
     check("flags of the walk", flags, VCPU_WALK_PSE);
+    check_walk(linear);
+    if (level == 3) {
+        /* Of PAE's pointers the second leads to the same page, and the third is not there yet. */
+        uint64_t walked[3] = {9, 9, 9};
+
+        vcpu_page_walk(record, sizeof record, memory, 4096 * GUEST_PAGES, 0x40000000 + linear, VCPU_ACCESS_FETCH, walked);
+        check("walk through the second pointer", walked[1], linear);
+        vcpu_page_walk(record, sizeof record, memory, 4096 * GUEST_PAGES, 0x80000000 + linear, VCPU_ACCESS_FETCH, walked);
+        check("level of the third pointer", walked[1], 3);
+        check("rule of the third pointer", walked[2], VCPU_RULE_NOT_PRESENT);
+    }
 }
 
 /* ---- At the end ---- */

@@ -27,6 +27,15 @@ extern "C" {
     pub fn vcpu_get_xcr0(record: *const u8, length: usize, xcr0: *mut u64) -> u32;
     pub fn vcpu_get_cpu_mode(record: *const u8, length: usize, host_efer: u64, mode: *mut u32) -> u32;
     pub fn vcpu_get_ptw_info(record: *const u8, length: usize, top_entry: *mut u64, level: *mut u8, width: *mut u8, flags: *mut u32) -> u32;
+    pub fn vcpu_page_walk(
+        record: *const u8,
+        length: usize,
+        memory: *const u8,
+        memory_length: usize,
+        address: u64,
+        kind: u8,
+        answer: *mut u64,
+    ) -> u32;
     pub fn vcpu_gla2gva(record: *const u8, length: usize, host_efer: u64, address: u64, linear: *mut u64) -> u32;
     pub fn vcpu_set_control(allowed0: u32, allowed1: u32, old: u32, set: u32, clear: u32, word: *mut u32) -> u32;
     pub fn vcpu_set_io_intercept_of_range(a: *mut u8, a_length: usize, b: *mut u8, b_length: usize, port_base: u32, count: u32, intercept: u8) -> u32;

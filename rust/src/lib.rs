@@ -385,6 +385,78 @@ pub struct PageWalk {
     pub flags: WalkFlags,
 }
 
+/// The kind of access that a walk of the guest's page tables is for. Whether it is the user's is the session's to tell.
+#[derive(Clone, Copy, PartialEq, Eq, Debug)]
+#[repr(u8)]
+pub enum Access {
+    Read = 0,
+    Write = 1,
+    /// An instruction fetch.
+    Fetch = 2,
+}
+
+impl Access {
+    /// `VCPU_ACCESS_..` of the header.
+    #[must_use]
+    pub const fn number(self) -> u8 {
+        self as u8
+    }
+}
+
+/// Why a walk of the guest's page tables fails at an entry, in the order in which it is judged.
+#[derive(Clone, Copy, PartialEq, Eq, Debug)]
+#[repr(u8)]
+pub enum Rule {
+    /// The entry is not present.
+    NotPresent = 1,
+    /// A reserved bit is set.
+    Reserved = 2,
+    /// The user's access, and the entry is the supervisor's.
+    User = 3,
+    /// A write, and the entry allows none. A supervisor is held to it with CR0.WP only.
+    Write = 4,
+    /// A fetch, and the entry allows none.
+    Execute = 5,
+    /// A supervisor's fetch from a page that is the user's at every level.
+    Smep = 6,
+    /// A supervisor's read or write of a page that is the user's at every level.
+    Smap = 7,
+}
+
+impl Rule {
+    /// All rules, by number from 1 on.
+    pub const ALL: [Rule; 7] = [Rule::NotPresent, Rule::Reserved, Rule::User, Rule::Write, Rule::Execute, Rule::Smep, Rule::Smap];
+
+    /// `VCPU_RULE_..` of the header.
+    #[must_use]
+    pub const fn number(self) -> u8 {
+        self as u8
+    }
+
+    fn of(number: u64) -> Rule {
+        Rule::ALL.into_iter().find(|rule| u64::from(rule.number()) == number).unwrap_or_else(|| unknown(number))
+    }
+}
+
+/// What a walk of the guest's page tables comes to.
+#[derive(Clone, Copy, PartialEq, Eq, Debug)]
+pub enum Walked {
+    /// The guest-physical address.
+    Address(u64),
+    /// The guest would fault: the level, from 4, 3 or 2 at the top table to 1, and the first rule that its entry breaks.
+    Fails { level: u8, rule: Rule },
+}
+
+impl Walked {
+    fn of(w: [u64; 3]) -> Walked {
+        match w[0] {
+            0 => Walked::Address(w[1]),
+            1 => Walked::Fails { level: (w[1] & 0xFF) as u8, rule: Rule::of(w[2]) },
+            number => unknown(number),
+        }
+    }
+}
+
 /// The archive is of another version than this crate.
 fn unknown(number: u64) -> ! {
     unreachable!("the archive answers {number}, which include/x86_vcpu.h does not have there")
@@ -602,10 +674,25 @@ impl Session {
 
     /// What a walk of the guest's page tables starts from.
     #[must_use]
-    pub fn page_walk(&self) -> PageWalk {
+    pub fn ptw_info(&self) -> PageWalk {
         let (mut top_entry, mut level, mut width, mut flags) = (0, 0, 0, 0);
         accepted(unsafe { ffi::vcpu_get_ptw_info(self.0.as_ptr(), RECORD_LENGTH, &raw mut top_entry, &raw mut level, &raw mut width, &raw mut flags) });
         PageWalk { top_entry, level, width, flags: WalkFlags(flags) }
+    }
+
+    /// Walks the guest's page tables from a guest-virtual address to the guest-physical one, or to the rule by which the guest itself would fault there. The
+    /// walk starts from what [`Session::ptw_info`] tells, so the access is the user's where SS has DPL 3. `memory` holds the guest's memory from address 0 on;
+    /// only the entries must lie in it, the page need not. Accessed and dirty bits are neither judged nor set. Without paging the address is the answer.
+    ///
+    /// # Errors
+    ///
+    /// [`Refusal::Memory`], an entry lies past the end of `memory`. It is judged at each level before that level's rules.
+    pub fn page_walk(&self, memory: &[u8], address: u64, access: Access) -> Result<Walked, Refusal> {
+        let mut words = [0; 3];
+        outcome(unsafe {
+            ffi::vcpu_page_walk(self.0.as_ptr(), RECORD_LENGTH, memory.as_ptr(), memory.len(), address, access.number(), words.as_mut_ptr())
+        })?;
+        Ok(Walked::of(words))
     }
 
     /// A guest address with the base of its code segment added (none in 64-bit mode).

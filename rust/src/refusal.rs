@@ -10,7 +10,8 @@ use core::fmt::{Display, Formatter, Result as FmtResult};
 pub enum Refusal {
     /// The session is in another phase than the call needs.
     Phase = 1,
-    /// The bytes are no record. The lengths and yes/no bytes of which the header speaks beside it are right in every call of this crate.
+    /// The bytes are no record. The lengths, yes/no bytes and kinds of access of which the header speaks beside it are right in every
+    /// call of this crate.
     Bytes = 2,
     /// No field has the encoding.
     Encoding = 3,
@@ -59,11 +60,13 @@ pub enum Refusal {
     Room = 24,
     /// Trials: a second buffer has another length than the first that it stands for. The two are alike in every call of this crate.
     Shown = 25,
+    /// Page walks: an entry of the guest's tables lies past the end of its memory.
+    Memory = 26,
 }
 
 impl Refusal {
     /// All refusals, by number from 1 on.
-    pub const ALL: [Refusal; 25] = [
+    pub const ALL: [Refusal; 26] = [
         Refusal::Phase,
         Refusal::Bytes,
         Refusal::Encoding,
@@ -89,6 +92,7 @@ impl Refusal {
         Refusal::Index,
         Refusal::Room,
         Refusal::Shown,
+        Refusal::Memory,
     ];
 
     /// The number that the archive answers.
@@ -124,6 +128,7 @@ impl Refusal {
             Refusal::Index => "the register's index is 4 or above 15",
             Refusal::Room => "the output is shorter than the trap sheet",
             Refusal::Shown => "a second buffer has another length than the first",
+            Refusal::Memory => "an entry of the guest's page tables lies past the end of its memory",
         }
     }
 }

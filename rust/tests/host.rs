@@ -7,8 +7,8 @@ use x86_vcpu_core::fields::{
     VmcsControl32, VmcsControl64, VmcsControlNW, VmcsGuest16, VmcsGuest32, VmcsGuest64, VmcsGuestNW, VmcsHostNW, VmcsReadOnly32, VmcsReadOnlyNW,
 };
 use x86_vcpu_core::{
-    blocks, ffi, set_control, Answer, Entry, Event, Field, Frames, HostWords, PageWalk, Phase, Refusal, Report, Session, Setup, VmCpuMode, WalkFlags, FRAME_LENGTH,
-    RECORD_LENGTH, SHEET_LARGEST, SHEET_LINE,
+    blocks, ffi, set_control, Access, Answer, Entry, Event, Field, Frames, HostWords, PageWalk, Phase, Refusal, Report, Rule, Session, Setup, VmCpuMode, WalkFlags,
+    Walked, FRAME_LENGTH, RECORD_LENGTH, SHEET_LARGEST, SHEET_LINE,
 };
 
 const WORDS: [u64; 14] = [
@@ -159,7 +159,7 @@ fn the_blocks_have_the_lengths_and_the_order_of_the_header() {
     assert_eq!(session.exit_report(&exit), Ok(Answer::Nothing));
     assert_eq!(session.read_field(VmcsReadOnly32::VMEXIT_INTERRUPTION_ERR_CODE), Ok(5));
     assert_eq!(session.registers()[..4], [1, 3, 4, 2]);
-    assert!(session.page_walk().flags.contains(WalkFlags::USER));
+    assert!(session.ptw_info().flags.contains(WalkFlags::USER));
 }
 
 #[test]
@@ -393,6 +393,18 @@ fn walk_flags_are_those_of_the_header() {
     assert_eq!(wrapper, header_numbers("VCPU_WALK_"));
 }
 
+/// The rules and the accesses, in the wrapper's spelling, and the words that start an answer.
+#[test]
+fn rules_and_accesses_are_those_of_the_header() {
+    let header = |prefix| header_numbers(prefix).into_iter().map(|(name, number)| (camel(&name), number)).collect::<BTreeMap<String, u32>>();
+    let rules: BTreeMap<String, u32> = Rule::ALL.iter().map(|rule| (format!("{rule:?}"), rule.number().into())).collect();
+    assert_eq!(rules, header("VCPU_RULE_"));
+    let accesses = [Access::Read, Access::Write, Access::Fetch];
+    let accesses: BTreeMap<String, u32> = accesses.iter().map(|access| (format!("{access:?}"), access.number().into())).collect();
+    assert_eq!(accesses, header("VCPU_ACCESS_"));
+    assert_eq!(header("VCPU_WALKED_"), BTreeMap::from([("Address".to_string(), 0), ("Fails".to_string(), 1)]));
+}
+
 #[test]
 fn refusals_are_errors_with_a_text() {
     let error: Box<dyn Error> = Box::new(Refusal::Full);
@@ -562,7 +574,7 @@ fn all_registers_at_once() {
 #[test]
 fn readings() {
     let (mut session, _) = ready();
-    assert_eq!(session.page_walk(), PageWalk { top_entry: 0, level: 0, width: 0, flags: WalkFlags::PSE });
+    assert_eq!(session.ptw_info(), PageWalk { top_entry: 0, level: 0, width: 0, flags: WalkFlags::PSE });
     assert_eq!(session.gla2gva(0, 0x1234), Ok(0x1234));
     assert_eq!(session.cpu_mode(0), VmCpuMode::Real);
     assert_eq!(session.cpu_mode(0x400), VmCpuMode::Compatibility);
@@ -574,7 +586,122 @@ fn readings() {
     session.write_field(VmcsGuest64::IA32_EFER, 0xC00).unwrap();
     session.write_field(VmcsGuestNW::CR3, 0x7000).unwrap();
     let flags = WalkFlags::PSE | WalkFlags::WP | WalkFlags::NXE | WalkFlags::SMAP | WalkFlags::SMEP;
-    assert_eq!(session.page_walk(), PageWalk { top_entry: 0x7000, level: 4, width: 9, flags });
+    assert_eq!(session.ptw_info(), PageWalk { top_entry: 0x7000, level: 4, width: 9, flags });
+}
+
+/// What differs from a read of the guest in an empty memory.
+#[derive(Clone, Copy)]
+enum Change {
+    /// A word of the guest's memory: where and what.
+    Word(usize, u64),
+    Field(Field, u64),
+    Access(Access),
+}
+use Change::{Field as Set, Word};
+
+const USER: Change = Set(VmcsGuest32::SS_ACCESS_RIGHTS, 0x60);
+const LONG_MODE_AND_NXE: u64 = 0xD00;
+
+/// A guest whose page tables have so many levels, with CR3 0x1000 and EFER.NXE; WP, SMEP and SMAP are clear.
+fn paging(levels: u8) -> Session {
+    let (mut session, _) = ready();
+    let (cr4, efer) = match levels {
+        2 => (0, 0x800),
+        3 => (0x20, 0x800),
+        _ => (0x20, LONG_MODE_AND_NXE),
+    };
+    session.write_field(VmcsGuestNW::CR0, 0x8000_0001).unwrap();
+    session.write_field(VmcsGuestNW::CR4, cr4).unwrap();
+    session.write_field(VmcsGuest64::IA32_EFER, efer).unwrap();
+    session.write_field(VmcsGuestNW::CR3, 0x1000).unwrap();
+    session
+}
+
+/// A walk in a memory of 0x6000 bytes that is zero but for the words of the changes; a read, unless they say otherwise.
+fn walked(mut session: Session, address: u64, changes: &[Change]) -> Result<Walked, Refusal> {
+    let (mut memory, mut access) = (vec![0; 0x6000], Access::Read);
+    for change in changes {
+        match *change {
+            Word(at, word) => memory[at..at + 8].copy_from_slice(&word.to_le_bytes()),
+            Set(field, value) => session.write_field(field, value).unwrap(),
+            Change::Access(kind) => access = kind,
+        }
+    }
+    let (before, tables) = (session.clone(), memory.clone());
+    let answer = session.page_walk(&memory, address, access);
+    assert!(session == before && memory == tables);
+    answer
+}
+
+const TABLES: [Change; 4] = [Word(0x1008, 0x2007), Word(0x2008, 0x3007), Word(0x3008, 0x4007), Word(0x4008, 0x5007)];
+const IN_TABLES: u64 = 0x80_4020_1ABC;
+
+/// The walk of `IN_TABLES` with the tables changed.
+fn walked_with(changes: impl IntoIterator<Item = Change>) -> Result<Walked, Refusal> {
+    walked(paging(4), IN_TABLES, &TABLES.into_iter().chain(changes).collect::<Vec<Change>>())
+}
+
+fn fails(level: u8, rule: Rule) -> Walked {
+    Walked::Fails { level, rule }
+}
+
+/// Typed by document 02's words.
+#[test]
+fn walks_give_the_worked_answers() {
+    assert_eq!(walked_with([]), Ok(Walked::Address(0x5ABC)));
+    assert_eq!(walked_with([Word(0x3008, 0x2000_0087)]), Ok(Walked::Address(0x2000_1ABC)));
+    assert_eq!(walked_with([Word(0x3008, 0x2000_2087)]), Ok(fails(2, Rule::Reserved)));
+    assert_eq!(walked_with([Word(0x1008, 0x2003), Word(0x2008, 0), USER]), Ok(fails(4, Rule::User)));
+    assert_eq!(walked_with([Word(0x1008, 0x000F_FFFF_FFFF_F003)]), Err(Refusal::Memory));
+    assert_eq!(walked_with([Set(VmcsGuestNW::CR4, 0x0020_0020)]), Ok(fails(1, Rule::Smap)));
+    let large = Word(0x100C, 0x0080_2087);
+    assert_eq!(walked(paging(2), 0x00C0_1234, &[large, Set(VmcsGuestNW::CR4, 0x10)]), Ok(Walked::Address(0x1_0080_1234)));
+    assert_eq!(walked(paging(2), 0x00C0_1234, &[large]), Err(Refusal::Memory));
+    assert_eq!(walked(paging(3), 0, &[Word(0x1020, 0x2003), Set(VmcsGuestNW::CR3, 0x1020)]), Ok(fails(3, Rule::Reserved)));
+}
+
+/// Each access and each rule, and a neighbour that passes.
+#[test]
+fn every_rule_is_told() {
+    const NO_EXECUTE: u64 = 1 << 63;
+    const WRITE: Change = Change::Access(Access::Write);
+    const FETCH: Change = Change::Access(Access::Fetch);
+    const WP: Change = Set(VmcsGuestNW::CR0, 0x8001_0001);
+    const SMEP: Change = Set(VmcsGuestNW::CR4, 0x0010_0020);
+    const SMAP: Change = Set(VmcsGuestNW::CR4, 0x0020_0020);
+    let passes = Ok(Walked::Address(0x5ABC));
+    assert_eq!(walked_with([Word(0x4008, 0x5006)]), Ok(fails(1, Rule::NotPresent)));
+    assert_eq!(walked_with([Word(0x1008, 0x2087)]), Ok(fails(4, Rule::Reserved)));
+    assert_eq!(walked_with([Word(0x2008, 0x3003), USER]), Ok(fails(3, Rule::User)));
+    assert_eq!(walked_with([Word(0x3008, 0x4005), WRITE, WP]), Ok(fails(2, Rule::Write)));
+    assert_eq!(walked_with([Word(0x3008, 0x4005), WRITE]), passes);
+    assert_eq!(walked_with([Word(0x3008, 0x4005), WP]), passes);
+    assert_eq!(walked_with([Word(0x4008, NO_EXECUTE | 0x5007), FETCH]), Ok(fails(1, Rule::Execute)));
+    assert_eq!(walked_with([Word(0x4008, NO_EXECUTE | 0x5007), WRITE]), passes);
+    assert_eq!(walked_with([SMEP, FETCH]), Ok(fails(1, Rule::Smep)));
+    assert_eq!(walked_with([SMEP]), passes);
+    assert_eq!(walked_with([SMAP, WRITE]), Ok(fails(1, Rule::Smap)));
+    assert_eq!(walked_with([SMAP, FETCH]), passes);
+}
+
+/// Without paging the address is the answer, whatever the memory; with it no entry lies in a memory of no byte.
+#[test]
+fn a_walk_without_memory() {
+    for access in [Access::Read, Access::Write, Access::Fetch] {
+        assert_eq!(ready().0.page_walk(&[], u64::MAX, access), Ok(Walked::Address(u64::MAX)));
+        assert_eq!(paging(4).page_walk(&[], 0, access), Err(Refusal::Memory));
+    }
+}
+
+/// The wrapper's accesses are right always; the archive refuses others, and then writes nothing.
+#[test]
+fn a_walk_of_another_access_is_refused() {
+    let (session, memory, mut answer) = (paging(4), [0; 0x1000], [9; 3]);
+    for (kind, refusal) in [(2, Refusal::Memory), (3, Refusal::Bytes), (255, Refusal::Bytes)] {
+        let record = session.as_bytes();
+        let number = unsafe { ffi::vcpu_page_walk(record.as_ptr(), record.len(), memory.as_ptr(), memory.len(), 0, kind, answer.as_mut_ptr()) };
+        assert_eq!((number, answer), (refusal.number(), [9; 3]));
+    }
 }
 
 /// The wrapper's lengths are right always; the archive refuses others.

@@ -57,6 +57,8 @@ functions! {
     "vcpu_get_cpu_mode" vcpu_get_cpu_mode(*const u8, usize, u64, *mut u32);
     // record, top entry, level, width, flags
     "vcpu_get_ptw_info" vcpu_get_ptw_info(*const u8, usize, *mut u64, *mut u8, *mut u8, *mut u32);
+    // record, memory, address, access, three words of answer
+    "vcpu_page_walk" vcpu_page_walk(*const u8, usize, *const u8, usize, u64, u8, *mut u64);
     // record, host EFER, address, linear address
     "vcpu_gla2gva" vcpu_gla2gva(*const u8, usize, u64, u64, *mut u64);
     // record, second record, report, eight words of answer

@@ -13,6 +13,8 @@ mod choose;
 mod control;
 mod intercepts;
 mod kept;
+mod page_walk;
+mod paging;
 mod report;
 mod session;
 mod setup;
@@ -33,7 +35,7 @@ struct Comparison {
     run: fn(&mut Random, u64, &mut Totals),
 }
 
-const COMPARISONS: [Comparison; 14] = [
+const COMPARISONS: [Comparison; 15] = [
     Comparison { names: &["vcpu_set_control"], run: control::run },
     Comparison { names: &["vcpu_set_io_intercept_of_range"], run: intercepts::run_ports },
     Comparison { names: &["vcpu_set_read_intercept"], run: intercepts::run_reads },
@@ -47,6 +49,7 @@ const COMPARISONS: [Comparison; 14] = [
     Comparison { names: &[], run: whole::run },
     Comparison { names: &[], run: kept::run },
     Comparison { names: &["vcpu_trap_sheet"], run: trap_sheet::run },
+    Comparison { names: &["vcpu_page_walk"], run: page_walk::run },
     Comparison { names: &trials::NAMES, run: trials::run },
 ];
 

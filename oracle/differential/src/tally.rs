@@ -6,7 +6,7 @@ use crate::trials::Trials;
 const SHOWN: u64 = 5;
 
 /// One more than the greatest number of a refusal.
-const NUMBERS: usize = 26;
+const NUMBERS: usize = 27;
 
 pub struct Tally {
     name: String,

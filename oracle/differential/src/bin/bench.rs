@@ -3,7 +3,7 @@
 //!
 //!   bench
 //!
-//! Setup and each exit report are first made on both sides and compared, and each trial with its call.
+//! Setup and each exit report are first made on both sides and compared, each trial with its call, and each page walk with its answer.
 
 #[path = "../archive.rs"]
 #[allow(dead_code)]
@@ -31,7 +31,7 @@ also decodes a block of 244 bytes, setup one of 273. A trial copies the record, 
 The Rust: the original's functions over arrays, called bare (no record, no block, nothing caught), as a release build has them: without overflow checks, all
 crates optimized together. Its state stays in memory. A field is an array access in place of VMREAD or VMWRITE, an MSR a search of a short list in place of
 RDMSR. An exit is its `run` with an empty queue: its assembly saves and loads the registers, and the report is stored in the arrays in place of the guest's run.
-An entry alone is its `inject_pending_events`, without that assembly; it has no phases, no counts, no trap sheet, no trials, and tests fewer things.
+An entry alone is its `inject_pending_events`, without that assembly; it has no phases, no counts, no page walk, no trap sheet, no trials, and tests fewer things.
 ";
 
 thread_local! {
@@ -624,6 +624,75 @@ fn readings(bench: &mut Bench) {
     });
 }
 
+/// A walk of the guest's page tables: the session's words, the entries of a memory that is zero else, and the number and the answer for an address at the
+/// start of a page.
+struct Walk {
+    name: &'static str,
+    cr0: u64,
+    cr4: u64,
+    entries: &'static [(usize, u64)],
+    address: u64,
+    number: u32,
+    answer: [u64; 3],
+}
+
+const WALKED_MEMORY: usize = 0x6000;
+const PAGING: u64 = 0x8000_0001;
+const LONGEST: Walk = Walk {
+    name: "page walk: 4 levels to a 4-KByte page",
+    cr0: PAGING,
+    cr4: 0x20,
+    entries: &[(0x1008, 0x2007), (0x2008, 0x3007), (0x3008, 0x4007), (0x4008, 0x5007)],
+    address: 0x80_4020_1000,
+    number: 0,
+    answer: [0, 0x5000, 0],
+};
+const WALKS: [Walk; 4] = [
+    LONGEST,
+    Walk {
+        name: "page walk: 2 levels to a 4-MByte page",
+        cr4: 0x10,
+        entries: &[(0x100C, 0x0080_2087)],
+        address: 0x00C0_1000,
+        answer: [0, 0x1_0080_1000, 0],
+        ..LONGEST
+    },
+    Walk { name: "page walk: no paging", cr0: 1, answer: [0, LONGEST.address, 0], ..LONGEST },
+    Walk {
+        name: "page walk refused by 26: the last of 4 tables is past the end",
+        entries: &[(0x1008, 0x2007), (0x2008, 0x3007), (0x3008, 0x6007)],
+        number: 26,
+        answer: [0; 3],
+        ..LONGEST
+    },
+];
+
+/// A supervisor's read. The rows are the port's alone.
+fn walks(bench: &mut Bench) {
+    assert_eq!(bench.port.set_up(), 0);
+    let walk = |port: &Port, memory: &[u8], address: u64| {
+        let (r, mut answer) = (port.record.as_ptr(), [0; 3]);
+        let m = memory.as_ptr();
+        (port!(vcpu_page_walk(r, LENGTH, m, memory.len(), address, 0, answer.as_mut_ptr())), answer)
+    };
+    for Walk { name, cr0, cr4, entries, address, number, answer } in WALKS {
+        for (encoding, word) in [(0x6800, cr0), (0x6802, 0x1000), (0x6804, cr4), (0x2806, 0xD00)] {
+            assert_eq!(port!(vcpu_write_field(bench.port.record.as_mut_ptr(), LENGTH, encoding, word)), 0);
+        }
+        let mut memory = vec![0; WALKED_MEMORY];
+        for &(at, entry) in entries {
+            memory[at..at + 8].copy_from_slice(&u64::to_le_bytes(entry));
+        }
+        assert_eq!(walk(&bench.port, &memory, address), (number, answer), "{name}");
+        let row = |port: &mut Port, i: u64| walk(port, &memory, address + i % 0x1000).1[1];
+        if name == LONGEST.name {
+            bench.lone_goal_row(70.0, name, 10_000, row);
+        } else {
+            bench.lone_row(name, 10_000, row);
+        }
+    }
+}
+
 /// The sheet of the port's frames: the number and the length.
 fn sheet_of(port: &Port, a_length: usize, output: &mut [u8]) -> (u32, u64) {
     let (n, mut length) = (FRAME_BYTES, 0);
@@ -754,6 +823,7 @@ fn main() {
     trials(&mut bench);
     accesses(&mut bench);
     readings(&mut bench);
+    walks(&mut bench);
     trap_sheets(&mut bench);
     refusals(&mut bench);
     println!("\nGoals:");

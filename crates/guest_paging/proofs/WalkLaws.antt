@@ -5,14 +5,18 @@ use mathlib.Core.List.{List}
 use Prim.Native.Nat.{ℕ, zero, suc, _+_, _-_, _*_, _/_, _%_, _^_, _≤_, _<_}
 use native.Mathlib.Omega.{arith}
 use borrow.Author.Tests.{lt-ltb, le-ltb, eq-eqb, ne-eqb}
+use mathlib.Core.Logic.{_≢_}
+use lib.Bits.{bitAnd}
 use lib.Dec.{eqb, ltb}
 use lib.ListN.{length}
 use Rattle.vcpu_readings.specs.declared.GuestPageWalkInfo.{GuestPageWalkInfo}
+use Rattle.guest_paging.specs.Entry as Entry
+use Rattle.guest_paging.specs.Rule as Rule
 use Rattle.guest_paging.specs.declared.Walked.{Walked}
 use Rattle.guest_paging.specs.declared.Walked.the-variants.{Address, Fails, Refused}
 use Rattle.guest_paging.specs.declared.Next.{Next}
 use Rattle.guest_paging.specs.declared.Next.the-variants.{Ends, Below}
-use Rattle.guest_paging.specs.Walk.{entrySize, entryAt, isPage, brokenRule, passesUser, atPage, nextTable, placeOf, entryGives, levelGives, goneOn, walkFrom}
+use Rattle.guest_paging.specs.Walk.{entrySize, entryAt, isPage, isPaeTop, reservedBits, brokenRight, brokenRule, passesUser, atPage, nextTable, placeOf, entryGives, levelGives, goneOn, walkFrom}
 
 pub size-most : (levels : ℕ) → entrySize levels ≤ 8
 unfolding entrySize
@@ -21,6 +25,27 @@ size-most levels = go (eqb levels 2)
     go : (b : Bool) → cond b 4 8 ≤ 8
     go true = omega arith
     go false = omega arith
+
+-- ---- the first rule that an entry breaks, by the answers of its parts
+
+module _ (i : GuestPageWalkInfo) (level : ℕ) (page : Bool) (e : ℕ) where
+  pub rule-absent : e / 2 ^ Entry.P % 2 ≡ 0 → Rule.NOT_PRESENT ≡ brokenRule i level page e
+  unfolding brokenRule
+  rule-absent h = rw (eq-eqb (e / 2 ^ Entry.P % 2) 0 h)
+
+  module _ (present : e / 2 ^ Entry.P % 2 ≢ 0) {m : ℕ} (bits : m ≡ reservedBits (i .level) level page (i .nxe)) where
+    pub rule-reserved : bitAnd e m ≢ 0 → Rule.RESERVED ≡ brokenRule i level page e
+    unfolding brokenRule
+    rule-reserved h = rw (ne-eqb (e / 2 ^ Entry.P % 2) 0 present, ← bits, ne-eqb (bitAnd e m) 0 h)
+
+    module _ (clear : bitAnd e m ≡ 0) {t : Bool} (top : t ≡ isPaeTop (i .level) level) where
+      pub rule-none : t ≡ true → 0 ≡ brokenRule i level page e
+      unfolding brokenRule
+      rule-none h = rw (ne-eqb (e / 2 ^ Entry.P % 2) 0 present, ← bits, eq-eqb (bitAnd e m) 0 clear, ← top, h)
+
+      pub rule-right : t ≡ false → {r : ℕ} → r ≡ brokenRight i e → r ≡ brokenRule i level page e
+      unfolding brokenRule
+      rule-right h {r} right = rw (ne-eqb (e / 2 ^ Entry.P % 2) 0 present, ← bits, eq-eqb (bitAnd e m) 0 clear, ← top, h) right
 
 -- ---- what an entry gives, by the answers of its parts
 

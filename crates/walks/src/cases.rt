@@ -1,12 +1,14 @@
 // Walks with all that they depend on. Of each entry its place is printed, and then what is stored there.
-use crate::guest::Access;
+use crate::Access;
+use crate::MEMORY;
 use crate::say;
 use crate::say_hex;
-use crate::tables;
-use crate::tables::MEMORY;
 use record::Record;
 
 const ALL: u64 = 0xFFFF_FFFF_FFFF_FFFF;
+
+// An open entry of the last page of all.
+const FAR: u64 = 0xF_FFFF_FFFF_F007;
 
 // Entries of pages 1 to 4, at one place in the first page and at another in the next ones. 0 is stored nowhere.
 struct Path {
@@ -20,7 +22,7 @@ struct Path {
 
 fn lay(memory: &mut [u8; MEMORY], levels: u8, at: usize, entry: u64) {
     if entry != 0 {
-        tables::put(memory, levels, at, entry);
+        crate::put_entry(memory, levels, at, entry);
         say(b" ");
         say_hex(at as u64);
         say(b" ");
@@ -110,52 +112,21 @@ fn last(levels: u8, length: usize, first: usize, next: usize, a: u64, b: u64, c:
     case(Access::of(levels, Access::READ, 0), 0x1000, ALL, p, length);
 }
 
+// With memory that ends here, and a byte before.
+fn last_two(levels: u8, end: usize, first: usize, next: usize, a: u64, b: u64, c: u64, d: u64) {
+    last(levels, end, first, next, a, b, c, d);
+    if end > 0 {
+        last(levels, end - 1, first, next, a, b, c, d);
+    }
+}
+
 pub fn edges() {
     four(0, 0xF_FFFF_FFFF_F002, 0, 0, 0);
     four(0, 0xF_FFFF_FFFF_F083, 0, 0, 0);
     four(Access::USER, 0xF_FFFF_FFFF_F003, 0, 0, 0);
-    last(
-        4,
-        0x5000,
-        0xFF8,
-        0xFF8,
-        0x2007,
-        0x3007,
-        0x4007,
-        0xF_FFFF_FFFF_F007,
-    );
-    last(
-        4,
-        0x4FFF,
-        0xFF8,
-        0xFF8,
-        0x2007,
-        0x3007,
-        0x4007,
-        0xF_FFFF_FFFF_F007,
-    );
-    last(
-        3,
-        0x4000,
-        0x18,
-        0xFF8,
-        0x2001,
-        0x3007,
-        0xF_FFFF_FFFF_F007,
-        0,
-    );
-    last(
-        3,
-        0x3FFF,
-        0x18,
-        0xFF8,
-        0x2001,
-        0x3007,
-        0xF_FFFF_FFFF_F007,
-        0,
-    );
-    last(2, 0x3000, 0xFFC, 0xFFC, 0x2007, 0xFFFF_F007, 0, 0);
-    last(2, 0x2FFF, 0xFFC, 0xFFC, 0x2007, 0xFFFF_F007, 0, 0);
+    last_two(4, 0x5000, 0xFF8, 0xFF8, 0x2007, 0x3007, 0x4007, FAR);
+    last_two(3, 0x4000, 0x18, 0xFF8, 0x2001, 0x3007, FAR, 0);
+    last_two(2, 0x3000, 0xFFC, 0xFFC, 0x2007, 0xFFFF_F007, 0, 0);
 }
 
 // ---- The numbers, and no paging.
@@ -198,12 +169,12 @@ pub fn numbers() {
 // ---- The record: its length and its phase.
 
 fn record(bytes: &[u8], phase: u8, length: usize) {
-    let memory = tables::memory_of(4, 0);
+    let memory = crate::memory_of(4, 0);
     say(b"record of ");
     say_hex(bytes.len() as u64);
     say(b", phase ");
     crate::say_decimal(phase as u64);
-    say_walk(bytes, &memory, length, tables::address_of(4), Access::READ);
+    say_walk(bytes, &memory, length, crate::address_of(4), Access::READ);
 }
 
 fn in_phase(phase: u8, length: usize) {

@@ -1,11 +1,9 @@
 // Of each rule that an entry can break: the smallest one that breaks it first; that one with the bit turned of which the rule speaks; and the smallest one with the flag turned of which it speaks, if it
 // does.
-use crate::guest::Access;
-use crate::kinds::Kind;
-use crate::marks;
+use crate::Access;
+use crate::Kind;
+use crate::MEMORY;
 use crate::say;
-use crate::tables;
-use crate::tables::MEMORY;
 
 const P: u64 = 1;
 
@@ -18,9 +16,9 @@ const XD: u64 = 0x8000_0000_0000_0000;
 // The access, the entry and the answer.
 fn meets(k: Kind, access: u8, flags: u64, entry: u64) {
     let a = k.by(access, flags);
-    let bytes = a.record(tables::page_of(k.levels));
-    let mut memory = tables::memory_of(k.levels, k.level);
-    tables::put(&mut memory, k.levels, k.place(), entry);
+    let bytes = a.record(crate::page_of(k.levels));
+    let mut memory = crate::memory_of(k.levels, k.level);
+    crate::put_entry(&mut memory, k.levels, k.place(), entry);
     a.say();
     say(b" ");
     crate::say_hex(entry);
@@ -29,7 +27,7 @@ fn meets(k: Kind, access: u8, flags: u64, entry: u64) {
 }
 
 fn walk(bytes: &[u8], memory: &[u8; MEMORY], k: Kind, access: u8) -> crate::Answer {
-    crate::walk(bytes, memory, tables::address_of(k.levels), access)
+    crate::walk(bytes, memory, crate::address_of(k.levels), access)
 }
 
 fn line(k: Kind, rule: u64, access: u8, flags: u64, others: u64, entry: u64, turned: u64) {
@@ -47,7 +45,7 @@ fn line(k: Kind, rule: u64, access: u8, flags: u64, others: u64, entry: u64, tur
 
 fn presence(k: Kind) {
     let present = k.bits | P;
-    let reserved = marks::turned(present, k.reserved);
+    let reserved = crate::turned(present, k.reserved);
     line(k, 1, Access::READ, 0, Access::USER, k.bits, present);
     if reserved != present {
         line(k, 2, Access::READ, 0, Access::NXE, reserved, present);

@@ -1,13 +1,10 @@
 // Many walks to a line.
+use crate::Access;
 use crate::Answer;
-use crate::guest;
-use crate::guest::Access;
-use crate::kinds::Kind;
-use crate::marks;
+use crate::Kind;
+use crate::MEMORY;
 use crate::say;
 use crate::say_hex;
-use crate::tables;
-use crate::tables::MEMORY;
 use record::Record;
 
 // What differs from walk to walk: a bit of CR3, of the address, of an entry that lets everyone pass; the bits of an entry that the rules speak of; the length of memory, from the place of an entry on,
@@ -26,7 +23,7 @@ const PRESENT: u8 = 5;
 
 fn bit_if(number: u64, bit: u64) -> u64 {
     if number % 2 == 1 {
-        return marks::turned(0, bit);
+        return crate::turned(0, bit);
     }
     0
 }
@@ -41,7 +38,7 @@ fn combination(k: Kind, number: u64) -> u64 {
 
 fn entry_of(k: Kind, what: u8, number: u64) -> u64 {
     match what {
-        ENTRY => marks::turned(k.open(), number),
+        ENTRY => crate::turned(k.open(), number),
         BITS => combination(k, number),
         ABSENT => 0,
         _ => k.open(),
@@ -70,32 +67,39 @@ fn walk_one(
     number: u64,
 ) -> Answer {
     let levels = k.levels;
-    let mut address = tables::address_of(levels);
+    let mut address = crate::address_of(levels);
     if what == ADDRESS {
-        address = marks::turned(address, number);
+        address = crate::turned(address, number);
     }
     if what == TOP {
-        guest::put_top(bytes, marks::turned(tables::page_of(levels), number));
+        crate::put_top(bytes, crate::turned(crate::page_of(levels), number));
     }
-    tables::put(memory, levels, k.place(), entry_of(k, what, number));
+    crate::put_entry(memory, levels, k.place(), entry_of(k, what, number));
     crate::walk_part(bytes, memory, length_of(k, what, number), address, access)
 }
 
 fn mark_of(a: Answer, k: Kind, what: u8, home: u64, number: u64) -> u8 {
     if what <= ADDRESS {
-        return marks::level_mark(a, home, number);
+        return crate::level_mark(a, home, number);
     }
     if what == ENTRY {
-        return marks::mark(a, k.level, home, number);
+        return crate::mark(a, k.level, home, number);
     }
-    marks::mark(a, k.level, home, marks::NONE)
+    crate::mark(a, k.level, home, crate::NO_BIT)
 }
 
 // The address that an entry leads to which lets everyone pass, or 0 where it leads to none.
 fn home_of(k: Kind) -> u64 {
-    let mut bytes = k.by(Access::READ, 0).record(tables::page_of(k.levels));
-    let mut memory = tables::memory_of(k.levels, k.level);
-    let a = walk_one(&mut bytes, &mut memory, k, Access::READ, ENTRY, marks::NONE);
+    let mut bytes = k.by(Access::READ, 0).record(crate::page_of(k.levels));
+    let mut memory = crate::memory_of(k.levels, k.level);
+    let a = walk_one(
+        &mut bytes,
+        &mut memory,
+        k,
+        Access::READ,
+        ENTRY,
+        crate::NO_BIT,
+    );
     if (a.refusal == 0) & (a.what == 0) {
         return a.first;
     }
@@ -121,7 +125,7 @@ fn print_all(
     let mut number: u64 = 0;
     while number < count {
         let walked = walk_one(bytes, memory, k, access, what, number);
-        marks::print(mark_of(walked, k, what, home, number), number);
+        crate::print_mark(mark_of(walked, k, what, home, number), number);
         number += 1;
     }
 }
@@ -129,8 +133,8 @@ fn print_all(
 fn sweep(k: Kind, access: u8, flags: u64, what: u8, name: &[u8], value: u64, count: u64) {
     let home = home_of(k);
     let a = k.by(access, flags);
-    let mut bytes = a.record(tables::page_of(k.levels));
-    let mut memory = tables::memory_of(k.levels, k.level);
+    let mut bytes = a.record(crate::page_of(k.levels));
+    let mut memory = crate::memory_of(k.levels, k.level);
     k.say();
     a.say();
     say(name);
@@ -169,7 +173,7 @@ fn places(k: Kind) {
             0,
             ADDRESS,
             b", address ",
-            tables::address_of(k.levels),
+            crate::address_of(k.levels),
             64,
         );
     }
@@ -180,7 +184,7 @@ fn places(k: Kind) {
             0,
             TOP,
             b", CR3 ",
-            tables::page_of(k.levels),
+            crate::page_of(k.levels),
             64,
         );
     }

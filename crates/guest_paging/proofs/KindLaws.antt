@@ -1,7 +1,7 @@
 -- Each kind of entry of the manual's tables, by the walk's definitions. Assumes nothing.
 use Prim.Native.Nat.{ℕ, zero, suc, _+_, _*_, _/_, _%_, _^_, _≤_, _<_}
-use mathlib.Core.Path.{_≡_, refl, sym, ap, _∙_, subst}
-use mathlib.Core.Bool.{Bool, true, false, cond, not, _&&_, false≢true, true≢false}
+use mathlib.Core.Path.{_≡_, refl, sym, _∙_, subst}
+use mathlib.Core.Bool.{Bool, true, false, cond, not, _&&_, true≢false}
 use mathlib.Core.List.{List, [], _∷_, _++_}
 use mathlib.Core.Logic.{_⊎_, inl, inr}
 use native.Mathlib.Omega.{arith}
@@ -12,7 +12,7 @@ use Rattle.bits.specs.LittleEndian.{littleEndian}
 use Rattle.bits.proofs.Each.{_⊗_}
 use Rattle.bits.proofs.Tells.{both-true}
 use Rattle.guest_paging.specs.Walk.{entrySize, indexOf, placeOf, entryAt, isPage, isPaeTop, reservedHigh, reservedLow, reservedBits, pageAddress, nextTable, cutAddress}
-use Rattle.guest_paging.specs.Reference.{field, Kind, kind, Told, always, large, small, IsTold, Made, kinds, Listed}
+use Rattle.guest_paging.specs.Reference.{field, Kind, kind, always, large, small, IsTold, Made, kinds, Listed}
 
 -- the address that the walk takes from an entry of a kind: of the page, or of the table below
 abbrev pub addressBy : Kind → ℕ → ℕ → ℕ

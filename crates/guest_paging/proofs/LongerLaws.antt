@@ -1,17 +1,17 @@
 -- A longer memory with the same bytes first changes no answer but 26. Assumes nothing.
-use Prim.Native.Nat.{ℕ, zero, suc, _+_, _-_, _≤_, _<_}
-use mathlib.Core.Path.{_≡_, refl, sym, ap, _∙_, subst}
+use Prim.Native.Nat.{ℕ, zero, suc, _+_, _≤_}
+use mathlib.Core.Path.{_≡_, refl, ap}
 use mathlib.Core.Bool.{Bool, true, false, cond}
 use mathlib.Core.List.{List, [], _∷_, _++_}
 use mathlib.Core.Logic.{_≢_}
 use native.Mathlib.Omega.{arith}
-use borrow.Author.Tests.{ltb-true, ltb-false, le-ltb}
+use borrow.Author.Tests.{ltb-false, le-ltb}
 use lib.Dec.{eqb, ltb}
 use lib.ListN.{length, take, drop}
 use Rattle.bits.specs.LittleEndian.{littleEndian, numberOf}
 use Rattle.vcpu_readings.specs.declared.GuestPageWalkInfo.{GuestPageWalkInfo}
 use Rattle.guest_paging.specs.declared.Walked.{Walked}
-use Rattle.guest_paging.specs.declared.Walked.the-variants.{Address, Fails, Refused}
+use Rattle.guest_paging.specs.declared.Walked.the-variants.{Address, Refused}
 use Rattle.guest_paging.specs.declared.Next.{Next}
 use Rattle.guest_paging.specs.declared.Next.the-variants.{Ends, Below}
 use Rattle.guest_paging.specs.Walk.{entrySize, entryAt, placeOf, entryGives, levelGives, goneOn, walkFrom, cutAddress, topTable, pageWalkOf}

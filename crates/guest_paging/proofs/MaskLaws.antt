@@ -1,10 +1,10 @@
 -- A word meets the word with listed bits exactly where one of those bits is set in it. Assumes nothing.
 use Prim.Native.Nat.{ℕ, _^_}
-use mathlib.Core.Path.{_≡_, refl, sym}
+use mathlib.Core.Path.{_≡_, refl}
 use mathlib.Core.Bool.{Bool, true, false, not, _||_, false≢true}
 use mathlib.Core.List.{List, [], _∷_}
-use mathlib.Core.Logic.{_⊎_, inl, inr}
-use lib.Bits.{bitAnd, bitOr}
+use mathlib.Core.Logic.{inl, inr}
+use lib.Bits.{bitAnd}
 use lib.Dec.{T, eqb}
 use Rattle.bits.specs.Words.{bit, maskOf, Apart}
 use Rattle.bits.proofs.BitLaws.{bit-of-zero}

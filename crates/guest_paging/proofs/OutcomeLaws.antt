@@ -1,5 +1,5 @@
 -- The walk's answer is the outcome that the statement has, and no other. Assumes nothing.
-use Prim.Native.Nat.{ℕ, zero, suc, _+_, _-_, _*_, _/_, _%_, _^_, _≤_, _<_}
+use Prim.Native.Nat.{ℕ, zero, suc, _+_, _-_, _≤_, _<_}
 use mathlib.Core.Path.{_≡_, refl, sym, ap, _∙_, subst}
 use mathlib.Core.Bool.{Bool, true, false, cond, true≢false}
 use mathlib.Core.List.{List, [], _∷_, _++_}
@@ -7,18 +7,16 @@ use mathlib.Core.Logic.{_⊎_, _≢_, inl, inr}
 use native.Mathlib.Omega.{arith}
 use borrow.Author.Tests.{eqb-true, eqb-false, eq-eqb, ne-eqb, ltb-true, ltb-false}
 use lib.Dec.{eqb, ltb}
-use lib.ListN.{length, drop}
+use lib.ListN.{length}
 use Rattle.bits.specs.LittleEndian.{Below as BelowAll}
 use Rattle.bits.specs.Refuses.{orElse, Refuses}
 use Rattle.bits.proofs.Tells.{Tells, cond-all, refuses-one, both-zero}
 use Rattle.vcpu_readings.specs.declared.GuestPageWalkInfo.{GuestPageWalkInfo}
-use Rattle.guest_paging.specs.declared.Walked.{Walked}
 use Rattle.guest_paging.specs.declared.Walked.the-variants.{Address, Fails, Refused}
 use Rattle.guest_paging.specs.declared.Next.{Next}
 use Rattle.guest_paging.specs.declared.Next.the-variants.{Ends, Below}
-use Rattle.guest_paging.specs.Walk.{entryAt, placeOf, brokenRule, brokenAtPage, pageAddress, nextTable, levelGives, goneOn, walkFrom, topTable, cutAddress, pageWalkOf}
-use Rattle.guest_paging.specs.Reference.{Kind, Met, Open, Made, piece, entryRules, pageRules, place, OfLevel, Meets, Top, Path, Judged, Outcome, itself, reaches, fails, past}
-use Rattle.guest_paging.specs.Laws.{Levels}
+use Rattle.guest_paging.specs.Walk.{entryAt, placeOf, brokenRule, pageAddress, nextTable, levelGives, goneOn, walkFrom, topTable, cutAddress}
+use Rattle.guest_paging.specs.Reference.{Kind, Met, Open, Made, entryRules, pageRules, place, OfLevel, Meets, Top, Path, Judged, Outcome, reaches, fails, past}
 use Rattle.guest_paging.proofs.WalkLaws.{walk-step}
 use Rattle.guest_paging.proofs.KindLaws.{right-of, Found, found}
 use Rattle.guest_paging.proofs.PathLaws.{opened, numberAt, spelt-at, past-gives, met-gives, opened-tells, met-judged, met-alone, page-made, page-alone, table-made, table-alone}

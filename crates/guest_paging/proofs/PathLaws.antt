@@ -1,26 +1,23 @@
 -- What the entry at the end of a path gives the walk. Assumes nothing.
-use Prim.Native.Nat.{ℕ, zero, suc, _+_, _-_, _*_, _/_, _%_, _^_, _≤_, _<_}
+use Prim.Native.Nat.{ℕ, _+_, _^_, _<_}
 use mathlib.Core.Path.{_≡_, refl, sym, ap, _∙_, subst}
-use mathlib.Core.Bool.{Bool, true, false, cond, _&&_, true≢false}
+use mathlib.Core.Bool.{Bool, true, false, cond, _&&_}
 use mathlib.Core.List.{List, [], _∷_, _++_}
-use mathlib.Core.Logic.{_⊎_, _≢_, inl, inr}
-use native.Mathlib.Omega.{arith}
-use borrow.Author.Tests.{eqb-true, eqb-false, ne-eqb}
 use lib.Dec.{eqb}
 use lib.ListN.{length, drop}
 use Rattle.bits.specs.LittleEndian.{littleEndian, Below as BelowAll}
 use Rattle.bits.specs.Refuses.{orElse, Refuses}
 use Rattle.bits.proofs.LittleEndianLaws.{little-below, below-drop}
-use Rattle.bits.proofs.Tells.{Tells, tells-and, refuses-one}
+use Rattle.bits.proofs.Tells.{Tells, tells-and}
 use Rattle.vcpu_readings.specs.declared.GuestPageWalkInfo.{GuestPageWalkInfo}
 use Rattle.guest_paging.specs.declared.Walked.{Walked}
 use Rattle.guest_paging.specs.declared.Walked.the-variants.{Address, Fails, Refused}
 use Rattle.guest_paging.specs.declared.Next.{Next}
 use Rattle.guest_paging.specs.declared.Next.the-variants.{Ends, Below}
-use Rattle.guest_paging.specs.Walk.{entrySize, entryAt, placeOf, isPage, brokenRule, passesUser, brokenAtPage, pageAddress, atPage, nextTable, entryGives, levelGives, goneOn, walkFrom, topTable, cutAddress}
-use Rattle.guest_paging.specs.Reference.{Kind, Met, Open, Made, Listed, kinds, IsTold, entryRules, pageRules, place, OfLevel, Meets, Top, Path}
+use Rattle.guest_paging.specs.Walk.{entrySize, entryAt, placeOf, isPage, brokenRule, passesUser, brokenAtPage, pageAddress, atPage, nextTable, entryGives, levelGives, cutAddress}
+use Rattle.guest_paging.specs.Reference.{Kind, Met, Open, Made, entryRules, pageRules, place, OfLevel, Meets}
 use Rattle.guest_paging.proofs.WalkLaws.{level-past, level-within}
-use Rattle.guest_paging.proofs.KindLaws.{Right, right-of, addressBy}
+use Rattle.guest_paging.proofs.KindLaws.{Right, right-of}
 use Rattle.guest_paging.proofs.RuleLaws.{passes-tells, entry-judged, all-judged}
 
 -- ---- an entry, by the number of the rule that it breaks

@@ -1,16 +1,16 @@
 -- The number of the rule that an entry breaks is that of the first rule in the statement's list. Assumes nothing.
-use Prim.Native.Nat.{ℕ, zero, suc, _/_, _%_, _^_}
+use Prim.Native.Nat.{ℕ, _/_, _%_, _^_}
 use mathlib.Core.Path.{_≡_, refl, sym, ap, _∙_, subst}
 use mathlib.Core.Bool.{Bool, true, false, cond, not, _&&_, _||_, false≢true, true≢false}
 use mathlib.Core.List.{List, [], _∷_, _++_}
 use lib.Bits.{bitAnd}
 use lib.Dec.{eqb}
 use Rattle.bits.specs.Words.{bit, maskOf}
-use Rattle.bits.specs.Refuses.{Rule, by, orElse, Refuses}
-use Rattle.bits.proofs.Tells.{Tells, tells-on, tells-off, tells-clear, tells-and, tells-or, tells-is, Rung, rung, numberOn, rulesOf, ladder, ladder-then}
+use Rattle.bits.specs.Refuses.{orElse, Refuses}
+use Rattle.bits.proofs.Tells.{Tells, tells-on, tells-off, tells-clear, tells-and, tells-or, tells-is, Rung, rung, numberOn, ladder, ladder-then}
 use Rattle.vcpu_readings.specs.declared.GuestPageWalkInfo.{GuestPageWalkInfo}
 use Rattle.guest_paging.specs.Walk.{isPaeTop, reservedBits, brokenRight, brokenRule, passesUser, brokenAtPage}
-use Rattle.guest_paging.specs.Reference.{Kind, Listed, kinds, Met, Open, OneSet, entryRules, pageRules}
+use Rattle.guest_paging.specs.Reference.{Listed, kinds, Met, Open, entryRules, pageRules}
 use Rattle.guest_paging.proofs.MaskLaws.{mask-tells}
 use Rattle.guest_paging.proofs.KindLaws.{Right, right-of}
 

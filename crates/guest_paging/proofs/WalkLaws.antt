@@ -1,8 +1,8 @@
 -- Laws of the walk's definitions. Assumes nothing.
-use mathlib.Core.Path.{_≡_, refl, sym, ap, _∙_}
+use mathlib.Core.Path.{_≡_, refl, sym, _∙_}
 use mathlib.Core.Bool.{Bool, true, false, cond, _&&_}
 use mathlib.Core.List.{List}
-use Prim.Native.Nat.{ℕ, zero, suc, _+_, _-_, _*_, _/_, _%_, _^_, _≤_, _<_}
+use Prim.Native.Nat.{ℕ, zero, suc, _+_, _-_, _/_, _%_, _^_, _≤_, _<_}
 use native.Mathlib.Omega.{arith}
 use borrow.Author.Tests.{lt-ltb, le-ltb, eq-eqb, ne-eqb}
 use mathlib.Core.Logic.{_≢_}
@@ -13,7 +13,7 @@ use Rattle.vcpu_readings.specs.declared.GuestPageWalkInfo.{GuestPageWalkInfo}
 use Rattle.guest_paging.specs.Entry as Entry
 use Rattle.guest_paging.specs.Rule as Rule
 use Rattle.guest_paging.specs.declared.Walked.{Walked}
-use Rattle.guest_paging.specs.declared.Walked.the-variants.{Address, Fails, Refused}
+use Rattle.guest_paging.specs.declared.Walked.the-variants.{Fails, Refused}
 use Rattle.guest_paging.specs.declared.Next.{Next}
 use Rattle.guest_paging.specs.declared.Next.the-variants.{Ends, Below}
 use Rattle.guest_paging.specs.Walk.{entrySize, entryAt, isPage, isPaeTop, reservedBits, brokenRight, brokenRule, passesUser, atPage, nextTable, placeOf, entryGives, levelGives, goneOn, walkFrom}

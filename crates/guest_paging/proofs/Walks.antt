@@ -1,6 +1,6 @@
 -- What holds of every walk. Assumes nothing.
-use Prim.Native.Nat.{ℕ, _/_, _%_, _^_, _≤_, _<_}
-use mathlib.Core.Path.{_≡_, refl, sym, ap, _∙_, subst}
+use Prim.Native.Nat.{ℕ, _/_, _%_, _^_, _<_}
+use mathlib.Core.Path.{_≡_, refl, subst}
 use mathlib.Core.Bool.{Bool, true, false, cond}
 use mathlib.Core.List.{List}
 use mathlib.Core.Logic.{_⊎_, _≢_, inl, inr}
@@ -16,7 +16,7 @@ use Rattle.vcpu_readings.specs.declared.GuestPageWalkInfo.{GuestPageWalkInfo}
 use Rattle.vcpu_readings.specs.declared.PagingWords.{PagingWords}
 use Rattle.vcpu_readings.specs.Readings.{pagingLevel, walkPse, pageWalk}
 use Rattle.guest_paging.specs.declared.Walked.{Walked}
-use Rattle.guest_paging.specs.declared.Walked.the-variants.{Address, Refused}
+use Rattle.guest_paging.specs.declared.Walked.the-variants.{Address}
 use Rattle.guest_paging.specs.Walk.{forAccess, pageWalkOf}
 use Rattle.guest_paging.specs.Reference.{Kind, OfLevel, Outcome, itself, reaches, fails, past}
 use Rattle.guest_paging.specs.Laws.{Levels, Reads, Walks}

@@ -220,6 +220,16 @@ static int write_frames(const char *name)
 
 /* ---- Entries ---- */
 
+/* Bit 11 says that an error code goes in. */
+static void print_event(void)
+{
+    uint64_t word = vmread(VmcsControl32_VMENTRY_INTERRUPTION_INFO_FIELD);
+
+    printf(" 0x%08" PRIX64, word);
+    if (word >> 11 & 1)
+        printf(" with code 0x%" PRIX64, vmread(VmcsControl32_VMENTRY_EXCEPTION_ERR_CODE));
+}
+
 static void enter(void)
 {
     static const char *const events[] = {"no event", "event held", "event written"};
@@ -246,7 +256,7 @@ static void enter(void)
     count_differing();
     printf("entry: %s, %s", resumed ? "VMRESUME" : "VMLAUNCH", events[event]);
     if (event == VCPU_EVENT_WRITTEN)
-        printf(" 0x%08" PRIX64, vmread(VmcsControl32_VMENTRY_INTERRUPTION_INFO_FIELD));
+        print_event();
     printf("; the guest has RIP 0x%" PRIX64 ", RAX 0x%" PRIX64 ", XCR0 0x%" PRIX64 "\n", vmread(VmcsGuestNW_RIP), guest[RAX], xcr0);
 }
 
@@ -491,6 +501,11 @@ static void print_counts(void)
     printf("fields that differed from the record's at an entry: %u\n", differing);
 }
 
+static void page_fault(void)
+{
+    printf("page fault, code 2: %" PRIu32 "\n", vcpu_queue_event(record, sizeof record, 14, 1, 2));
+}
+
 /* The first argument, if there is one, names the file to which the frames go. */
 int main(int argc, char **argv)
 {
@@ -502,7 +517,8 @@ int main(int argc, char **argv)
     /* Vector 32 is held while IF is clear, as it is after setup. */
     printf("interrupt 32: %" PRIu32 "\n", vcpu_inject_interrupt(record, sizeof record, 32));
     enter_and_report(&window);
-    printf("page fault, code 2: %" PRIu32 "\n", vcpu_queue_event(record, sizeof record, 14, 1, 2));
+    /* The guest is in real mode: the code does not go in. */
+    page_fault();
     printf("breakpoint: %" PRIu32 "\n", vcpu_queue_event(record, sizeof record, 3, 0, 0));
     for (i = 0; i < sizeof exits / sizeof exits[0]; i++)
         enter_and_report(&exits[i]);
@@ -510,6 +526,8 @@ int main(int argc, char **argv)
            vmread(VmcsGuest64_IA32_EFER), vmread(VmcsControl32_VMENTRY_CONTROLS));
     walk("read", 0x9ABC, VCPU_ACCESS_READ);
     walk("write", 0xA000, VCPU_ACCESS_WRITE);
+    /* The guest has set PE: the code goes in. */
+    page_fault();
     report_twice(&power_off);
     enter_and_report(&failed_entry);
     enter();

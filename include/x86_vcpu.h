@@ -169,15 +169,17 @@ extern "C" {
  *
  * At an entry:
  * - After vcpu_entry it writes, where *resumed is 0, host RSP (0x6C14); for a held event the primary controls (0x4002); for a written one 0x4016, 0x4018, 0x401A.
- * - A processor refuses some events (VMfail 7). While CR0.PE is clear the host writes 0x4016 without bit 11, in the VMCS alone: a guest in real mode takes no error
- *   code [code-in-real-mode, code-in-real-mode-kept]. Vectors 21 to 31 have type 7, and a code has 16 bits: it queues none of the first and no wider code
- *   [vector-25, wide-code].
- * - Vectors 1, 3 and 4 return to RIP plus the length, which is the last exit's, while RIP is past that exit's instruction already (before the first exit it is 0).
+ * - A processor refuses some events (VMfail 7). Vectors 22 to 31 have type 7, and a code has 16 bits: the host queues none of the first and no wider code
+ *   [vector-25, wide-code]. It queues vector 21 only where IA32_VMX_BASIC (0x480) has bit 56: else a processor takes no code with it
+ *   [control-protection, control-protection-queued].
+ * - Whether an error code goes in is decided by CR0.PE of the record [page-fault, code-in-real-mode, code-waits], which is therefore to be that of the VMCS: reports
+ *   bring CR0 as it is at the exit, and a host that changes 0x6800 in the VMCS alone gets the wrong word [code-waits-stale].
+ * - Vectors 3 and 4 return to RIP plus the length, which is the last exit's, while RIP is past that exit's instruction already (before the first exit it is 0).
  *   In the VMCS alone the host writes 0x401A as 0 or, where IA32_VMX_MISC (0x485) has bit 30 clear, as 1 and RIP (0x681E) less by 1, which the guest sees if
  *   the delivery faults [breakpoint, breakpoint-exit-length, first-breakpoint, first-breakpoint-exit-length].
  * - An entry looks at the front of the queue alone, so an exception waits behind a held interrupt. A fault of the guest's present instruction, as #UD of reason 0,
- *   is therefore not queued: where *event is not VCPU_EVENT_WRITTEN the host writes it to 0x4016 and 0x4018 of the VMCS alone, and else it leaves it, since the
- *   guest comes to the instruction again [fault, fault-queued, fault-and-interrupt].
+ *   is therefore not queued: where *event is not VCPU_EVENT_WRITTEN the host writes it to 0x4016 and 0x4018 of the VMCS alone, with bit 11 only while CR0.PE is set,
+ *   and else it leaves it, since the guest comes to the instruction again [fault, fault-queued, fault-and-interrupt].
  * - Vector 2 goes in at once. The host queues it only while neither bit 0 nor bit 1 of interruptibility (0x4824) is set [nmi-shadow, nmi-shadow-at-once].
  * - It loads all registers, and CR2 and the x87 and SSE state, which are in neither record nor VMCS [long-mode, main]; and what else guest and host share and no
  *   probe has a use of: DR0 to DR3 and DR6, PKRU, the MSRs of SYSCALL, SWAPGS and RDTSCP, IA32_XFD (0x1C4), IA32_XFD_ERR (0x1C5), IA32_XSS and the state that it
@@ -217,7 +219,7 @@ extern "C" {
  *   runs on [xsetbv-refused]: the host gives it up, or reports the exit under a reason that is Halt and writes the fault as above, with code 0 (no probe).
  * - IDT-vectoring information (0x4408) with bit 31 names an event whose delivery the exit ended. What came of the guest's instruction comes again by itself,
  *   but for a debug trap, which no probe has [delivery-own, delivery-int, delivery-int3]. An interrupt, an NMI and what the entry put in are queued again, with
- *   the code of 0x440A where bit 11 is set, and then stand last; with vectors 1, 3 and 4 RIP goes on by the exit's instruction length
+ *   the code of 0x440A where bit 11 is set, and then stand last; with vectors 3 and 4 RIP goes on by the exit's instruction length
  *   [delivery, delivery-lost, delivery-code, delivery-breakpoint].
  * - Reason 0 with type 2 in 0x4404 is the machine's NMI, and is Halt: the host runs its handler (no probe). INVEPT after a change of EPT tables in use is the host's.
  * - vcpu_get_cpu_mode and vcpu_gla2gva tell the guest's mode if they are given the guest's EFER (0x2806) in place of the host's [main, host-efer].
@@ -405,13 +407,15 @@ uint32_t vcpu_setup(uint8_t *record, size_t length, const uint8_t *block, size_t
     F(VmcsHostNW, RIP, 0x6C16)
 
 /*
- * Queues an event last: its vector and, where coded is 1, its error code (code does not matter where coded is 0).
+ * Queues an event last: its vector and, where coded is 1, its error code (code does not matter where coded is 0). Vectors 8, 10 to 14, 17 and 21 carry a code,
+ * which waits with its event and goes in as vcpu_entry says; others drop it.
  * Refusals: VCPU_REFUSED_BYTES, VCPU_REFUSED_PHASE (ended), VCPU_REFUSED_FULL.
  */
 uint32_t vcpu_queue_event(uint8_t *record, size_t length, uint8_t vector, uint8_t coded, uint32_t code);
 
 /*
- * Queues an interrupt without an error code. The vector is judged whole. Vectors 1 to 31 go in as exceptions do.
+ * Queues an interrupt without an error code. The vector is judged whole. Vectors 1 to 31 go in as exceptions do, those that carry a code with the exit's, as
+ * vcpu_entry says.
  * Refusals: VCPU_REFUSED_BYTES, VCPU_REFUSED_PHASE (ended), VCPU_REFUSED_VECTOR, VCPU_REFUSED_FULL.
  */
 uint32_t vcpu_inject_interrupt(uint8_t *record, size_t length, uint64_t vector);
@@ -424,7 +428,9 @@ uint32_t vcpu_inject_interrupt(uint8_t *record, size_t length, uint64_t vector);
 /*
  * An entry into the guest, which the host then makes: *resumed is 0 for VMLAUNCH (the first entry) and 1 for VMRESUME, *event what became
  * of the front of the queue. host_stack is stored in the field host RSP at the first entry only. An event whose vector is 32 or more is
- * held while RFLAGS.IF is clear or interruptibility is not 0. A written event is in the entry interruption field, with its code and length.
+ * held while RFLAGS.IF is clear or interruptibility is not 0. A written event is in the entry interruption field (0x4016), with its code (0x4018) and its length
+ * (0x401A). Vectors 8, 10 to 14, 17 and 21 have a code, the caller's or else the exit's (0x4406), unless CR0.PE is clear (bit 0 of 0x6800 in the record, as the entry
+ * finds it). Vectors 3 and 4 have a length, the exit's (0x440C). Without a code bit 11 of 0x4016 is clear and 0x4018 keeps what it had; without a length 0x401A does.
  * Refusals: VCPU_REFUSED_BYTES, VCPU_REFUSED_PHASE (not ready), VCPU_REFUSED_COUNT.
  */
 uint32_t vcpu_entry(uint8_t *record, size_t length, uint64_t host_stack, uint8_t *resumed, uint8_t *event);

@@ -180,6 +180,41 @@ def entries():
     edge("entry", 0, 2**32 - 1, 31, 0, 0, Refused(1))
 
 
+def events():
+    """N7. A vector, CR0, and whether code 2 is given: 0x4016, 0x4018 and 0x401A, where 0x4018 was 9, 0x401A 5, the exit's code 6 and its length 3."""
+    name = "entry, event"
+    # PE set
+    edge(name, 1, 1, 0, [0x80000301, 9, 5])
+    edge(name, 2, 1, 0, [0x80000202, 9, 5])
+    edge(name, 3, 1, 0, [0x80000603, 9, 3])
+    edge(name, 4, 1, 1, [0x80000604, 9, 3])
+    edge(name, 8, 1, 0, [0x80000B08, 6, 5])
+    edge(name, 9, 1, 1, [0x80000309, 9, 5])
+    edge(name, 14, 1, 1, [0x80000B0E, 2, 5])
+    edge(name, 17, 1, 1, [0x80000B11, 2, 5])
+    edge(name, 20, 1, 1, [0x80000314, 9, 5])
+    edge(name, 21, 1, 0, [0x80000B15, 6, 5])
+    edge(name, 21, 1, 1, [0x80000B15, 2, 5])
+    edge(name, 22, 1, 1, [0x80000716, 9, 5])
+    edge(name, 31, M64, 1, [0x8000071F, 9, 5])
+    # PE clear
+    edge(name, 1, 0, 0, [0x80000301, 9, 5])
+    edge(name, 3, 0, 0, [0x80000603, 9, 3])
+    edge(name, 8, 0, 0, [0x80000308, 9, 5])
+    edge(name, 10, 0, 1, [0x8000030A, 9, 5])
+    edge(name, 11, 0, 1, [0x8000030B, 9, 5])
+    edge(name, 12, 0, 0, [0x8000030C, 9, 5])
+    edge(name, 13, 0, 1, [0x8000030D, 9, 5])
+    edge(name, 14, 0, 1, [0x8000030E, 9, 5])
+    edge(name, 14, M64 - 1, 1, [0x8000030E, 9, 5])
+    edge(name, 17, 0, 1, [0x80000311, 9, 5])
+    edge(name, 21, 0, 0, [0x80000315, 9, 5])
+    edge(name, 21, 0, 1, [0x80000315, 9, 5])
+    # vector 14 with code 2: CR0 while it is queued, and then
+    edge("entry, CR0 written", 0, 1, [0x80000B0E, 2, 5])
+    edge("entry, CR0 written", 1, 0, [0x8000030E, 9, 5])
+
+
 def apic_values():
     """Waiting alone; then ready, with the low half in RAX and the high half in RDX."""
     value = 0x1122334455667788
@@ -550,7 +585,7 @@ def tried_msrs():
 
 PROGRAMS = {
     "edges": [ports, msrs, registers, fields, controls, lengths, addresses, sheets],
-    "edges_sessions": [records, queues, entries, apic_values, reports, control_registers],
+    "edges_sessions": [records, queues, entries, events, apic_values, reports, control_registers],
     "edges_setup": [setups, pairs, xcr0],
     "edges_trials": [tried_entries, tried_reports, tried_ports, tried_msrs],
 }

@@ -32,6 +32,12 @@ void inject(uint64_t vector)
     queued_or_not((uint8_t)vector, vcpu_inject_interrupt(record, sizeof record, vector));
 }
 
+/* In protected mode vector 21 has a code, with which the entry is VMfail 7 where bit 56 of IA32_VMX_BASIC is clear (SDM 3C, 27.2.1.3; 3D, A.1). */
+static int takes(uint8_t vector)
+{
+    return vector != 21 || rdmsr(IA32_VMX_BASIC) & BASIC_ANY_CODE || deviates(QUEUE_21);
+}
+
 /* An NMI goes in at once, and the processor takes none while STI or MOV SS blocks: it waits for an exit where neither does. */
 static int late_nmi;
 
@@ -113,7 +119,8 @@ static void hypercall(const uint64_t *answer)
         check_arguments(answer);
         break;
     case CALL_QUEUE:
-        queue((uint8_t)answer[2], (uint8_t)answer[3], (uint32_t)answer[4]);
+        if (takes((uint8_t)answer[2]))
+            queue((uint8_t)answer[2], (uint8_t)answer[3], (uint32_t)answer[4]);
         break;
     case CALL_TIMER:
         start_timer();

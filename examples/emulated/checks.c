@@ -174,6 +174,26 @@ static void check_breakpoint(void)
     check_saw("where the breakpoint returns to", SAW_RETURN, saw(SAW_RETURN_TO));
 }
 
+/* The last event went in without its code, since PE was clear: 0x4018 keeps the code of the page fault before it, or else the 0 of a new record. */
+static void check_no_code(void)
+{
+    check("word of the general-protection fault", last_word, 0x8000030D);
+    check("0x4018, which is kept", field(VmcsControl32_VMENTRY_EXCEPTION_ERR_CODE), saw(SAW_CODE_14));
+}
+
+/* A hardware exception has no length: 0x401A keeps the 0 of a new record, though the last exit had the length of VMCALL. */
+static void check_debug(void)
+{
+    check("word of the debug exception", last_word, 0x80000301);
+    check("0x401A, which is kept", field(VmcsControl32_VMENTRY_INSTRUCTION_LEN), 0);
+}
+
+/* The caller's code, where the host has queued vector 21. */
+static void check_control_protection(void)
+{
+    check_saw("code of the control-protection exception", SAW_CODE_21, count.queued ? 3 : 0);
+}
+
 /* Each interrupt was handled once, in the order of the queue. */
 static void check_many(void)
 {
@@ -308,6 +328,15 @@ static void check_done(void)
         break;
     case DONE_CODES:
         check_codes();
+        break;
+    case DONE_NO_CODE:
+        check_no_code();
+        break;
+    case DONE_DEBUG:
+        check_debug();
+        break;
+    case DONE_CONTROL_PROTECTION:
+        check_control_protection();
         break;
     case DONE_SHADOW:
         check_saw("the page as the handler found it", SAW_SHADOW, 0x5AD0);

@@ -7,12 +7,14 @@ struct guest_area guest_area __attribute__((aligned(16)));
 int launched;
 /* The event of the last entry as the VMCS had it; none where it was a fault of the guest's instruction. */
 uint64_t entered_with;
+/* The word of the last event that an entry wrote, as the record had it before the exit cleared its bit 31. */
+uint64_t last_word;
 /* The guest's CR2, which is in no field. */
 static uint64_t guest_cr2;
 
 /*
- * INT1, INT3 and INTO (types 5 and 6) return to RIP plus the length, which the core takes from the last exit. RIP is past that exit's instruction already:
- * the length is to be 0, or where the processor takes no 0 (IA32_VMX_MISC bit 30), 1 from one byte before. In the VMCS alone.
+ * INT3 and INTO (type 6) return to RIP plus the length, which the core takes from the last exit. RIP is past that exit's instruction already: the length is
+ * to be 0, or where the processor takes no 0 (IA32_VMX_MISC bit 30), 1 from one byte before. In the VMCS alone.
  */
 static void set_length(void)
 {
@@ -22,17 +24,6 @@ static void set_length(void)
         vmwrite(VmcsControl32_VMENTRY_INSTRUCTION_LEN, 1);
         vmwrite(VmcsGuestNW_RIP, field(VmcsGuestNW_RIP) - 1);
     }
-}
-
-/* What a processor would refuse of an event. A guest in real mode takes no error code: bit 11 is cleared, in the VMCS alone. */
-static void fit_event(void)
-{
-    uint64_t info = field(VmcsControl32_VMENTRY_INTERRUPTION_INFO_FIELD);
-
-    if (!(field(VmcsGuestNW_CR0) & CR0_PE) && !deviates(KEEP_CODE))
-        vmwrite(VmcsControl32_VMENTRY_INTERRUPTION_INFO_FIELD, info & ~INFO_CODE);
-    if (INFO_SOFTWARE_EXCEPTION(info) && !deviates(EXIT_LENGTH))
-        set_length();
 }
 
 static void carry_entry(uint8_t resumed, uint8_t event)
@@ -76,9 +67,8 @@ static void write_fault(uint8_t event)
 /* In the queue's order? The vectors that entries wrote are those that were queued, one by one. */
 static void follow_order(void)
 {
-    uint8_t vector = (uint8_t)field(VmcsControl32_VMENTRY_INTERRUPTION_INFO_FIELD);
-
-    if (vector != queued[count.written % MANY_ROOM])
+    last_word = field(VmcsControl32_VMENTRY_INTERRUPTION_INFO_FIELD);
+    if ((uint8_t)last_word != queued[count.written % MANY_ROOM])
         count.out_of_order++;
     count.written++;
     tell("  event written: word %x, code %x, length %u\n", vmread(VmcsControl32_VMENTRY_INTERRUPTION_INFO_FIELD),
@@ -159,7 +149,8 @@ int enter(void)
         tell("  event held\n");
     }
     if (event == VCPU_EVENT_WRITTEN) {
-        fit_event();
+        if (INFO_SOFTWARE_EXCEPTION(field(VmcsControl32_VMENTRY_INTERRUPTION_INFO_FIELD)) && !deviates(EXIT_LENGTH))
+            set_length();
         follow_order();
     }
     write_fault(event);

@@ -78,6 +78,8 @@ static void fill_report(uint32_t reason)
         put(report, VCPU_REPORT_REGS + 8 * i, 8, guest_area.regs[i]);
     for (i = 0; i < sizeof reported / sizeof reported[0]; i++)
         put(report, reported[i].at, reported[i].size, vmread(reported[i].encoding));
+    if (deviates(RECORD_CR0))
+        put(report, VCPU_REPORT_CR0, 8, field(VmcsGuestNW_CR0));
     put(report, VCPU_REPORT_INTERRUPTIBILITY, 4, blocking(reason));
     if (reason == EXIT_CPUID)
         guest_cpuid((uint32_t)guest_area.regs[RAX], (uint32_t)guest_area.regs[RCX], r);
@@ -178,8 +180,8 @@ static void carry_move(uint64_t controls_before, uint64_t bits_before)
 
 /*
  * An exit while an event was delivered: the event did not arrive, and no report tells the core. What came of the guest's instruction comes again, since RIP
- * is still there. What this entry put in, and an interrupt or NMI, is queued again, behind those that wait; INT1, INT3 and INTO return to RIP plus their
- * length, where RIP is put.
+ * is still there. What this entry put in, and an interrupt or NMI, is queued again, behind those that wait; INT3 and INTO return to RIP plus their length,
+ * where RIP is put.
  */
 static void queue_vectoring(void)
 {

@@ -75,12 +75,13 @@ enum {
 #define INFO_CODE (1ull << 11)
 #define INFO_HARDWARE_EXCEPTION (3ull << 8)
 #define INFO_TYPE(info) ((info) >> 8 & 7)
-#define INFO_WHAT (INFO_VALID | 0x7FF)                                                /* valid, type, vector */
-#define INFO_OF_INSTRUCTION(info) (INFO_TYPE(info) >= 3)                              /* INT n and exceptions */
-#define INFO_SOFTWARE_EXCEPTION(info) (INFO_TYPE(info) == 5 || INFO_TYPE(info) == 6) /* INT1, INT3, INTO */
+#define INFO_WHAT (INFO_VALID | 0x7FF)                       /* valid, type, vector */
+#define INFO_OF_INSTRUCTION(info) (INFO_TYPE(info) >= 3)     /* INT n and exceptions */
+#define INFO_SOFTWARE_EXCEPTION(info) (INFO_TYPE(info) == 6) /* INT3, INTO */
 #define PIN_PREEMPTION_TIMER (1ull << 6)
 #define SECONDARY_XSAVES (1ull << 20)
 #define BASIC_TRUE_WORDS (1ull << 55)
+#define BASIC_ANY_CODE (1ull << 56)
 
 /* Exit reasons (SDM 3D, appendix C). */
 enum {
@@ -179,7 +180,7 @@ void raise_fault(uint8_t vector);
 void queue_nmi(void);
 void queue_late_nmi(void);
 extern int launched;
-extern uint64_t entered_with;
+extern uint64_t entered_with, last_word;
 
 /* checks.c: what was seen, and what should have been */
 struct counts {

@@ -26,8 +26,9 @@
     O(LOSE_VECTORING)         /* do not queue what IDT-vectoring information names */         \
     O(KEEP_BLOCKING)          /* leave blocking by STI and MOV SS at a completed exit */      \
     O(REPORT_NMI_BLOCKING)    /* leave blocking by NMI in the report */                       \
-    O(KEEP_CODE)              /* leave an error code to a guest in real mode */               \
-    O(EXIT_LENGTH)            /* leave the length of INT1, INT3 and INTO as the core does */  \
+    O(RECORD_CR0)             /* report CR0 as the record has it, not as the exit left it */  \
+    O(QUEUE_21)               /* queue vector 21 where the processor takes no code with it */ \
+    O(EXIT_LENGTH)            /* leave the length of INT3 and INTO as the core does */        \
     O(HOST_EFER)              /* read the CPU mode with the host's EFER */                    \
     O(QUEUE_FIRST)            /* queue vector 3 before the first entry */                     \
     O(NO_XCR0)                /* do not load the guest's XCR0 before an entry */              \

@@ -4,7 +4,8 @@ usage: trace 1000 1 | python3 replay.py
 
 It shows that document 01 and the Rust agree in the comparable domain. A difference is printed with its line number; the
 exit status is then 1. Of XSETBV the model follows document 02 (N1) and the Rust does not: no trace has it, and the
-model is tried on document 02's edges instead.
+model is tried on document 02's edges instead. Of vectors 1 and 21, and of codes while CR0.PE is clear, it has document 01's
+words, which are the Rust's; the port follows document 02 there (N7), and this list is not about the port.
 """
 
 import sys

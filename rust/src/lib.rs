@@ -507,7 +507,8 @@ impl Session {
         })
     }
 
-    /// Queues an event last.
+    /// Queues an event last. Vectors 8, 10 to 14, 17 and 21 carry an error code, this one or else the exit's; others drop it. It goes in as
+    /// [`Session::entry`] says.
     ///
     /// # Errors
     ///
@@ -516,7 +517,7 @@ impl Session {
         outcome(unsafe { ffi::vcpu_queue_event(self.at(), RECORD_LENGTH, vector, u8::from(code.is_some()), code.unwrap_or(0)) })
     }
 
-    /// Queues an interrupt without an error code.
+    /// Queues an interrupt without an error code. Vectors 1 to 31 go in as exceptions do, those that carry a code with the exit's.
     ///
     /// # Errors
     ///
@@ -525,7 +526,8 @@ impl Session {
         outcome(unsafe { ffi::vcpu_inject_interrupt(self.at(), RECORD_LENGTH, vector) })
     }
 
-    /// An entry into the guest, which the host then makes. `host_stack` is stored at the first entry only.
+    /// An entry into the guest, which the host then makes. `host_stack` is stored at the first entry only. No error code goes in while PE of the
+    /// session's CR0 is clear.
     ///
     /// # Errors
     ///

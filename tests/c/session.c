@@ -23,9 +23,12 @@ static uint32_t model_push(uint8_t *r, uint8_t vector, uint8_t coded, uint32_t c
     return 0;
 }
 
+/* Entries that wrote a vector which carries a code, by CR0.PE and whether the code was given. */
+static unsigned long carrying[2][2];
+
 static uint32_t model_entry(uint8_t *r, uint64_t stack, uint8_t *resumed, uint8_t *event)
 {
-    static const uint8_t codes[] = {8, 10, 11, 12, 13, 14, 17};
+    static const uint8_t codes[] = {8, 10, 11, 12, 13, 14, 17, 21};
     unsigned v = r[R_VECTORS], type, code = 0, left;
 
     if (r[R_PHASE] != VCPU_READY)
@@ -48,11 +51,13 @@ static uint32_t model_entry(uint8_t *r, uint64_t stack, uint8_t *resumed, uint8_
         return 0;
     }
     *event = VCPU_EVENT_WRITTEN;
-    type = v == 1 ? 5 : v == 2 ? 2 : v == 3 || v == 4 ? 6 : v <= 20 ? 3 : v <= 31 ? 7 : 0;
+    type = v == 2 ? 2 : v == 3 || v == 4 ? 6 : v <= 21 ? 3 : v <= 31 ? 7 : 0;
     if (memchr(codes, (int)v, sizeof codes)) {
-        code = 1;
-        set_field(r, 0x4018, r[R_CODED] & 1 ? get(r, R_CODE(0), 4) : field(r, 0x4406));
+        code = (unsigned)field(r, 0x6800) & 1;
+        carrying[code][r[R_CODED] & 1]++;
     }
+    if (code)
+        set_field(r, 0x4018, r[R_CODED] & 1 ? get(r, R_CODE(0), 4) : field(r, 0x4406));
     if (type == 4 || type == 5 || type == 6)
         set_field(r, 0x401A, field(r, 0x440C));
     set_field(r, 0x4016, 0x80000000u | code << 11 | type << 8 | v);
@@ -299,6 +304,9 @@ static void many(unsigned long calls)
         printf("%-22s %7lu calls, %5.1f%% accepted\n", names[f], made[f], 100.0 * (double)accepted[f] / (double)made[f]);
         CHECK(accepted[f] * 5 > made[f]);
     }
+    printf("events that carry a code: PE clear %lu, %lu of them with one given; PE set %lu, %lu\n", carrying[0][0] + carrying[0][1], carrying[0][1],
+           carrying[1][0] + carrying[1][1], carrying[1][1]);
+    CHECK(carrying[0][0] && carrying[0][1] && carrying[1][0] && carrying[1][1]);
 }
 
 /* The offsets and numbers that the header publishes are those of the model, which every call above is compared with; so are the offsets of fields.h. */
@@ -350,6 +358,50 @@ static void edges(void)
     printf("session: edges as document 01 says\n");
 }
 
+/*
+ * What an entry writes for an event, by vector, CR0, and whether code 2 is given: 0x4016, 0x4018 and 0x401A. Before it 0x4018 is 9 and 0x401A is 5; the exit's
+ * code is 6, its length 3.
+ */
+static const struct {
+    uint8_t vector;
+    uint64_t cr0;
+    uint8_t coded;
+    uint32_t word, code, length;
+} written[] = {
+    {1, 1, 0, 0x80000301, 9, 5},     {1, 0, 1, 0x80000301, 9, 5},     {2, 1, 1, 0x80000202, 9, 5},    {3, 1, 0, 0x80000603, 9, 3},     {3, 0, 1, 0x80000603, 9, 3},
+    {4, 1, 1, 0x80000604, 9, 3},     {8, 1, 0, 0x80000B08, 6, 5},     {8, 0, 0, 0x80000308, 9, 5},    {9, 1, 1, 0x80000309, 9, 5},     {10, 1, 1, 0x80000B0A, 2, 5},
+    {10, 0, 1, 0x8000030A, 9, 5},    {11, 1, 1, 0x80000B0B, 2, 5},    {11, 0, 0, 0x8000030B, 9, 5},   {12, 1, 1, 0x80000B0C, 2, 5},    {12, 0, 1, 0x8000030C, 9, 5},
+    {13, 1, 0, 0x80000B0D, 6, 5},    {13, 0, 1, 0x8000030D, 9, 5},    {14, 1, 1, 0x80000B0E, 2, 5},   {14, 0, 1, 0x8000030E, 9, 5},    {14, ~(uint64_t)1, 1, 0x8000030E, 9, 5},
+    {17, 1, 1, 0x80000B11, 2, 5},    {17, 0, 1, 0x80000311, 9, 5},    {20, 1, 1, 0x80000314, 9, 5},   {21, 1, 0, 0x80000B15, 6, 5},    {21, ~(uint64_t)0, 1, 0x80000B15, 2, 5},
+    {21, 0, 1, 0x80000315, 9, 5},    {22, 1, 1, 0x80000716, 9, 5},    {31, 1, 1, 0x8000071F, 9, 5},   {32, 1, 1, 0x80000020, 9, 5},    {255, 1, 1, 0x800000FF, 9, 5},
+};
+
+/* PE is that of 0x6800 at the entry: the read shadow and the host's CR0 say the opposite, and so does 0x6800 while the event is queued. */
+static void events(void)
+{
+    static uint8_t r[N];
+    uint8_t resumed, event;
+    unsigned i;
+
+    for (i = 0; i < sizeof written / sizeof written[0]; i++) {
+        memset(r, 0, N);
+        r[R_PHASE] = VCPU_READY;
+        set_field(r, 0x6800, ~written[i].cr0);
+        CHECK(vcpu_queue_event(r, N, written[i].vector, written[i].coded, 2) == 0);
+        set_field(r, 0x6800, written[i].cr0);
+        set_field(r, 0x6004, ~written[i].cr0);
+        set_field(r, 0x6C00, ~written[i].cr0);
+        set_field(r, 0x6820, 1 << 9);
+        set_field(r, 0x4018, 9);
+        set_field(r, 0x401A, 5);
+        set_field(r, 0x4406, 6);
+        set_field(r, 0x440C, 3);
+        CHECK(vcpu_entry(r, N, 0, &resumed, &event) == 0 && event == VCPU_EVENT_WRITTEN);
+        CHECK(field(r, 0x4016) == written[i].word && field(r, 0x4018) == written[i].code && field(r, 0x401A) == written[i].length);
+    }
+    printf("session: %u events in their fields\n", i);
+}
+
 /* Of bytes that are no record XCR0 is not read, and the result keeps what it had. */
 static void xcr0_of_no_record(uint8_t *r, size_t length, unsigned at, unsigned size, uint64_t x)
 {
@@ -398,6 +450,7 @@ int main(int argc, char **argv)
 
     offsets();
     edges();
+    events();
     xcr0();
     many(calls);
     printf("session: %lu calls, every byte and result as the model\n", calls);

@@ -105,7 +105,7 @@ valid-after s stack h clear Empty e = ap (λ (x : EventFields). bit 31 (x .info)
 valid-after s stack h clear Held e = ap (λ (x : EventFields). bit 31 (x .info)) (event-so begun s stack h Held e) ∙ clear
 valid-after s stack h clear Written e =
     ap (λ (x : EventFields). bit 31 (x .info)) (event-written begun s stack h (written-waits s e))
-    ∙ tabled (frontOf (s .queue) .vector) (h .fits .queue .vectors .below 0) .valid
+    ∙ tabled (frontOf (s .queue) .vector) (bit 0 (wordsOf s .cr0)) (h .fits .queue .vectors .below 0) .valid
 
 entry-valid : (t : Tally Event) (s : Session) (stack : ℕ) → WellTyped (entry stack) → Sound s → Clear (wordsOf s)
     → isRefused (sessionStep s (entry stack) .refusal) ≡ false

@@ -1,6 +1,6 @@
 -- A write seen at its field and at another, the fields that an entry leaves alone, and values within their fields. Assumes nothing.
 use Prim.Native.Nat.{ℕ, _<_, _^_}
-use mathlib.Core.Path.{_≡_, refl, _∙_}
+use mathlib.Core.Path.{_≡_, refl, ap, _∙_}
 use mathlib.Core.Bool.{Bool, true, false, cond, _&&_}
 use mathlib.Core.List.{List, [], _∷_}
 use lib.Dec.{T, ltb, ltb→lt, lit<}
@@ -8,15 +8,16 @@ use lib.ListN.{drop}
 use borrow.Author.Tests.{eq-eqb}
 use Rattle.bits.proofs.Tells.{both-false, cond-all}
 use Rattle.bits.proofs.WordLaws.{and-l, and-r}
-use Rattle.definitions.specs.Interruption.{hasErrorCode, isSoft, fromVector}
+use Rattle.definitions.specs.Interruption.{isSoft, fromVector, eventWord}
 use Rattle.vmcs.specs.Field.{Field, Word16, Word64, Word32, Natural, placeOf, sizeOf, widthBits, valueOf, put}
 use Rattle.vmcs.specs.Writes.{Write, _≔_, applied, sameField, Sized}
 use Rattle.vmcs.specs.declared.Vmcs.{Vmcs}
 use Rattle.vmcs.specs.Names.VmcsControl32 as VmcsControl32
+use Rattle.vmcs.specs.Names.VmcsGuestNW as VmcsGuestNW
 use Rattle.vmcs.specs.Names.VmcsHostNW as VmcsHostNW
 use Rattle.vmcs.specs.Names.VmcsReadOnly32 as VmcsReadOnly32
 use Rattle.vmcs.proofs.WriteLaws.{read-applied, sized-applied}
-use Rattle.vcpu_events.specs.Entry.{wordOf, codeOf, withCode, withLength, injected, withStack, windowSet, vmcsAfter}
+use Rattle.vcpu_events.specs.Entry.{codeIn, codeGoesIn, wordOf, codeOf, withCode, withLength, injected, withStack, windowSet, vmcsAfter}
 use Rattle.vcpu_events.specs.declared.Event as Core
 use Rattle.vcpu_events.specs.declared.Injection.{Injection}
 use Rattle.vcpu_events.specs.declared.Injection.the-variants.{Empty, Held, Written}
@@ -45,7 +46,7 @@ module _ (P : Vmcs → Type 0) (Other : Field → Type 0) (kept : (v : Vmcs) (g 
 
   code-keeps : (v : Vmcs) (e : Core.Event) → Other VmcsControl32.VMENTRY_EXCEPTION_ERR_CODE → P v → P (withCode v e)
   unfolding withCode
-  code-keeps v e o p = cond-all P (hasErrorCode (e .vector)) _ _ (λ _. kept v VmcsControl32.VMENTRY_EXCEPTION_ERR_CODE _ o p) (λ _. p)
+  code-keeps v e o p = cond-all P (codeGoesIn v e) _ _ (λ _. kept v VmcsControl32.VMENTRY_EXCEPTION_ERR_CODE _ o p) (λ _. p)
 
   length-keeps : (v : Vmcs) (e : Core.Event) → Other VmcsControl32.VMENTRY_INSTRUCTION_LEN → P v → P (withLength v e)
   unfolding withLength
@@ -126,18 +127,18 @@ module _ (v : Vmcs) (e : Core.Event) (s : Sized v) where
   parts-sized = same-length VmcsReadOnly32.VMEXIT_INSTRUCTION_LEN (lit< tt) v (withCode v e) e refl
       (same-code VmcsReadOnly32.VMEXIT_INSTRUCTION_LEN (lit< tt) v e s refl) .sized
 
-  pub injected-word : valueOf (injected v e) info ≡ wordOf e
+  pub injected-word : valueOf (injected v e) info ≡ wordOf v e
   unfolding injected
-  injected-word = put-own (withLength (withCode v e) e) info (wordOf e) parts-sized (lit< tt)
+  injected-word = put-own (withLength (withCode v e) e) info (wordOf v e) parts-sized (lit< tt)
 
   pub injected-code : valueOf (injected v e) VmcsControl32.VMENTRY_EXCEPTION_ERR_CODE
-      ≡ cond (hasErrorCode (e .vector)) (cond (e .coded) (e .code) (valueOf v VmcsReadOnly32.VMEXIT_INTERRUPTION_ERR_CODE))
+      ≡ cond (codeGoesIn v e) (cond (e .coded) (e .code) (valueOf v VmcsReadOnly32.VMEXIT_INTERRUPTION_ERR_CODE))
       (valueOf v VmcsControl32.VMENTRY_EXCEPTION_ERR_CODE)
   unfolding injected withCode codeOf
   injected-code =
-      put-same (withLength (withCode v e) e) info code (wordOf e) parts-sized (lit< tt) refl
+      put-same (withLength (withCode v e) e) info code (wordOf v e) parts-sized (lit< tt) refl
       ∙ same-length code (lit< tt) (withCode v e) (withCode v e) e refl (record { sized = coded-sized; value = refl }) .value
-      ∙ go (hasErrorCode (e .vector))
+      ∙ go (codeGoesIn v e)
     where
       code : Field
       code = VmcsControl32.VMENTRY_EXCEPTION_ERR_CODE
@@ -153,7 +154,7 @@ module _ (v : Vmcs) (e : Core.Event) (s : Sized v) where
       ≡ cond (isSoft (fromVector (e .vector))) (valueOf v VmcsReadOnly32.VMEXIT_INSTRUCTION_LEN) (valueOf v VmcsControl32.VMENTRY_INSTRUCTION_LEN)
   unfolding injected withLength
   injected-long =
-      put-same (withLength (withCode v e) e) info long (wordOf e) parts-sized (lit< tt) refl
+      put-same (withLength (withCode v e) e) info long (wordOf v e) parts-sized (lit< tt) refl
       ∙ go (isSoft (fromVector (e .vector)))
       ∙ (λ i. cond (isSoft (fromVector (e .vector))) (same-code VmcsReadOnly32.VMEXIT_INSTRUCTION_LEN (lit< tt) v e s refl .value i)
       (same-code long (lit< tt) v e s refl .value i))
@@ -167,6 +168,13 @@ module _ (v : Vmcs) (e : Core.Event) (s : Sized v) where
       go : (b : Bool) → valueOf (cond b (put (withCode v e) long x) (withCode v e)) long ≡ cond b x (valueOf (withCode v e) long)
       go true = put-own (withCode v e) long x coded-sized (lit< tt)
       go false = refl
+
+-- the word that an entry leaves where it writes the front is that of the fields before it: it does not write CR0
+pub entered-word : (v : Vmcs) (launched : Bool) (stack : ℕ) (e : Core.Event) → Sized v → valueOf (vmcsAfter (withStack v launched stack) e Written) info ≡ wordOf v e
+unfolding vmcsAfter
+entered-word v launched stack e s =
+    let z = same-stack VmcsGuestNW.CR0 (lit< tt) v launched stack s refl in
+    injected-word (withStack v launched stack) e (z .sized) ∙ ap (λ (cr0 : ℕ). eventWord (e .vector) (codeIn (e .vector) cr0)) (z .value)
 
 -- ---- values within their fields
 

@@ -11,7 +11,7 @@ use Rattle.bits.specs.Words.{low32, high32}
 use Rattle.bits.proofs.WithBit.{withBit-lt}
 use Rattle.bits.specs.LittleEndian.{Below}
 use Rattle.bits.proofs.Tells.{cond-all}
-use Rattle.definitions.specs.Interruption.{hasErrorCode, isSoft, fromVector}
+use Rattle.definitions.specs.Interruption.{isSoft, fromVector}
 use Rattle.definitions.proofs.EventLaws.{event-bits}
 use Rattle.regs.specs.Registers.{withReg, withRegOfIndex}
 use Rattle.regs.specs.declared.RegWritten.{RegWritten}
@@ -29,7 +29,7 @@ use Rattle.vcpu_session.specs.declared.Session.{Session}
 use Rattle.vcpu_events.specs.Queue as Queue
 use Rattle.vcpu_events.specs.Queue.{pushed, popped, frontOf}
 use Rattle.vcpu_events.specs.Entry as Entry
-use Rattle.vcpu_events.specs.Entry.{injectionOf, afterEntry, progressAfter, queueAfter, vmcsAfter, withStack, windowSet, wordOf, codeOf, withCode, withLength, injected}
+use Rattle.vcpu_events.specs.Entry.{injectionOf, afterEntry, progressAfter, queueAfter, vmcsAfter, withStack, windowSet, codeGoesIn, wordOf, codeOf, withCode, withLength, injected}
 use Rattle.vcpu_events.specs.declared.Event as Core
 use Rattle.vcpu_events.specs.declared.Answered.{Answered}
 use Rattle.vcpu_events.specs.declared.Entered.{Entered}
@@ -65,7 +65,7 @@ stack-fits v launched stack h m = cond-all VmcsFits launched _ _ (λ _. m) (λ _
 code-fits : (v : Vmcs) (e : Core.Event) → e .code < 2 ^ 32 → VmcsFits v → VmcsFits (withCode v e)
 unfolding withCode codeOf
 code-fits v e h m =
-    cond-all VmcsFits (hasErrorCode (e .vector)) _ _
+    cond-all VmcsFits (codeGoesIn v e) _ _
     (λ _. put-fits m VmcsControl32.VMENTRY_EXCEPTION_ERR_CODE _
     (cond-all (λ (x : ℕ). x < 2 ^ 32) (e .coded) _ _ (λ _. h) (λ _. value-fits v VmcsReadOnly32.VMEXIT_INTERRUPTION_ERR_CODE m)))
     (λ _. m)
@@ -79,8 +79,8 @@ length-fits v e m =
 injected-fits : (v : Vmcs) (e : Core.Event) → e .vector < 256 → e .code < 2 ^ 32 → VmcsFits v → VmcsFits (injected v e)
 unfolding injected
 injected-fits v e h k m =
-    put-fits (length-fits (withCode v e) e (code-fits v e k m)) VmcsControl32.VMENTRY_INTERRUPTION_INFO_FIELD (wordOf e)
-    (event-bits (e .vector) (hasErrorCode (e .vector)) h .fits)
+    put-fits (length-fits (withCode v e) e (code-fits v e k m)) VmcsControl32.VMENTRY_INTERRUPTION_INFO_FIELD (wordOf v e)
+    (event-bits (e .vector) (codeGoesIn v e) h .fits)
 
 window-fits : (v : Vmcs) → VmcsFits v → VmcsFits (windowSet v true)
 unfolding windowSet

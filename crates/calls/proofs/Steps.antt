@@ -1,7 +1,7 @@
 -- One call on a session: it goes as the reference does, and is refused exactly where its numbers say. One lemma for each call. Assumes nothing.
 use Prim.Native.Nat.{ℕ, zero, suc, _+_, _-_, _/_, _%_, _^_, _<_, _≤_}
 use mathlib.Core.Path.{_≡_, refl, sym, ap, _∙_, subst}
-use mathlib.Core.Bool.{Bool, true, false, cond, not, true≢false}
+use mathlib.Core.Bool.{Bool, true, false, cond, not, _&&_, true≢false}
 use mathlib.Core.List.{List, [], _∷_, _++_, List·Memᴰ}
 use mathlib.Core.Logic.{_⊎_, _≢_, inl, inr}
 use mathlib.Core.Option.{some, none, Option·getD}
@@ -38,7 +38,7 @@ use Rattle.vcpu_session.proofs.LawfulLaws.{of-lawful}
 use Rattle.vcpu_events.specs.Queue as Queue
 use Rattle.vcpu_events.specs.Queue.{answered, pushed, popped, frontOf}
 use Rattle.vcpu_events.specs.Entry as Entry
-use Rattle.vcpu_events.specs.Entry.{injectionOf, afterEntry, progressAfter, queueAfter, vmcsAfter, windowSet, withStack}
+use Rattle.vcpu_events.specs.Entry.{injectionOf, codeIn, afterEntry, progressAfter, queueAfter, vmcsAfter, windowSet, withStack}
 use Rattle.vcpu_events.specs.declared.Event as Core
 use Rattle.vcpu_events.specs.declared.Answered.{Answered}
 use Rattle.vcpu_events.specs.declared.Entered.{Entered}
@@ -68,15 +68,15 @@ use Rattle.vcpu_report.proofs.ReportLaws.{exit-is, report-laws}
 use Rattle.blocks.specs.SetupBlock.{argumentsOf, msrsOf, featuresOf}
 use Rattle.call_specs.specs.Records.{queueStep}
 use Rattle.bits.specs.Refuses.{by, Refuses}
-use Rattle.bits.proofs.Tells.{Tells, tells-eq, tells-leb, tells-clear, tells-and, tells-or, tells-not, tells-as, cond-all}
+use Rattle.bits.proofs.Tells.{Tells, tells-eq, tells-leb, tells-on, tells-clear, tells-and, tells-or, tells-not, tells-as, cond-all}
 use Rattle.calls.specs.Moves.{Move, queues, exits, fails, rests, moved, answerOf, Tally, tallied}
-use Rattle.calls.specs.Reference.{choose, Call, setup, queueEvent, injectInterrupt, entry, exitReport, apicValue, fieldWrite, registerWrite, WellTyped, Event, entryMove, moveBy, Limits, msrAt, limitsOf, controlValue, IsHeld, isHeld, answerOn, moveOn, Reference, types, codes, isSoft, eventFields, eventBy, controlsBy, inPhase, atSetup, atEntry, atExit, atFieldWrite, wordsBy, referenceStep, referenceAnswer, Buffers, setupRules, reportRules, ownRules}
+use Rattle.calls.specs.Reference.{choose, Call, setup, queueEvent, injectInterrupt, entry, exitReport, apicValue, fieldWrite, registerWrite, WellTyped, Event, entryMove, moveBy, Limits, msrAt, limitsOf, controlValue, IsHeld, isHeld, answerOn, moveOn, Reference, types, codes, codeGoesIn, isSoft, eventFields, eventBy, controlsBy, inPhase, atSetup, atEntry, atExit, atFieldWrite, wordsBy, referenceStep, referenceAnswer, Buffers, setupRules, reportRules, ownRules}
 use Rattle.calls.specs.Calls.{Outcome, Logged, isRefused, eventOf, eventsOf, waitingOf, limitsIn, wordsOf, moveOf}
 use Rattle.calls.proofs.Choices.{impossible, choose-no, choose-ap}
 use Rattle.calls.proofs.Events.{events-set, events-long, events-shifted, events-front}
 use Rattle.calls.proofs.RawWrites.{Names, raw-read, placed-listed, listed-placed}
 use Rattle.calls.proofs.WordBits.{tabled}
-use Rattle.calls.proofs.Fields.{put-own, same-stack, same-window, same-injected, entryFields, same-entered, injected-word, injected-code, injected-long}
+use Rattle.calls.proofs.Fields.{put-own, same-stack, same-window, same-injected, entryFields, same-entered, injected-code, injected-long, entered-word}
 use Rattle.calls.proofs.Sessions.{hasBuffers, left, entering, sessionStep, Sound, sound-sized, sound-alike, viewOf}
 use Rattle.calls.proofs.SetupNumbers.{buffers-of, of-buffers, setup-refuses, same-limits, secondary-set}
 use Rattle.calls.proofs.SetupFits.{typed}
@@ -398,22 +398,22 @@ module _ (t : Tally Event) (s : Session) (stack : ℕ) (h : Sound s) where
   -- the front in its fields
   pub event-written : 0 < s .queue .waiting
       → wordsOf (afterEntry s stack Written) .event
-      ≡ eventFields (eventOf (frontOf (s .queue) .vector) (frontOf (s .queue) .coded) (frontOf (s .queue) .code)) (wordsOf s .errorCode) (wordsOf s .instructionLength)
-      (wordsOf s .event)
-  unfolding afterEntry vmcsAfter
+      ≡ eventFields (eventOf (frontOf (s .queue) .vector) (frontOf (s .queue) .coded) (frontOf (s .queue) .code)) (bit 0 (wordsOf s .cr0)) (wordsOf s .errorCode)
+      (wordsOf s .instructionLength) (wordsOf s .event)
+  unfolding afterEntry vmcsAfter codeIn
   event-written some-wait =
       let e = frontOf (s .queue) in
-      let y = tabled (e .vector) (h .fits .queue .vectors .below 0) in
+      let pe = bit 0 (wordsOf s .cr0) in
+      let y = tabled (e .vector) pe (h .fits .queue .vectors .below 0) in
       let k : (f : Field) → placeOf f < sizeOf f → sameField VmcsHostNW.RSP f ≡ false → valueOf begun f ≡ valueOf (s .vmcs) f
       = λ f l n. same-stack f l (s .vmcs) (s .progress .launched) stack (sound-sized s h) n .value in
-      let carries = ℕ-discrete (getD codes (e .vector) 0) 1 in
       λ i. record {
-        info = (injected-word begun e stacked ∙ y .word) i;
+        info = (entered-word (s .vmcs) (s .progress .launched) stack e (sound-sized s h) ∙ y .word) i;
         code = (injected-code begun e stacked
-            ∙ (λ i. cond (y .coded i) (cond (e .coded) (e .code) (k VmcsReadOnly32.VMEXIT_INTERRUPTION_ERR_CODE (lit< tt) refl i))
+            ∙ (λ i. cond (y .coded i && bit 0 (k VmcsGuestNW.CR0 (lit< tt) refl i)) (cond (e .coded) (e .code) (k VmcsReadOnly32.VMEXIT_INTERRUPTION_ERR_CODE (lit< tt) refl i))
             (k VmcsControl32.VMENTRY_EXCEPTION_ERR_CODE (lit< tt) refl i))
-            ∙ picks (tells-eq (getD codes (e .vector) 0) 1) carries _ _
-            ∙ ap (λ (x : ℕ). choose carries x (wordsOf s .event .code)) (given-code (e .coded) (e .code) (wordsOf s .errorCode))) i;
+            ∙ picks (tells-and (tells-eq (getD codes (e .vector) 0) 1) (tells-on pe)) (codeGoesIn (e .vector) pe) _ _
+            ∙ ap (λ (x : ℕ). choose (codeGoesIn (e .vector) pe) x (wordsOf s .event .code)) (given-code (e .coded) (e .code) (wordsOf s .errorCode))) i;
         length = (injected-long begun e stacked
             ∙ (λ i. cond (y .soft i) (k VmcsReadOnly32.VMEXIT_INSTRUCTION_LEN (lit< tt) refl i) (k VmcsControl32.VMENTRY_INSTRUCTION_LEN (lit< tt) refl i))
             ∙ picks (tells-and (tells-leb 4 (getD types (e .vector) 0)) (tells-leb (getD types (e .vector) 0) 6)) (isSoft (e .vector)) _ _) i;

@@ -34,12 +34,12 @@ pub record Answers (p : Reference) (a : Injection) : Type 0 where
   pub held : (front : Event) (rest : List Event) → p .pending ≡ front ∷ rest → HeldBack p (front .vector) → a ≡ Held
   pub written : (front : Event) (rest : List Event) → p .pending ≡ front ∷ rest → (HeldBack p (front .vector) → ⊥) → a ≡ Written
 
--- the session t that an entry returns has the front's word, and its code and length, if any, in their fields
+-- the session t that an entry returns has the front's word, and its code and length, if any, in their fields; CR0.PE, bit 0, is that before the entry
 pub record Wrote (p : Reference) (t : Session) : Type 0 where
   pub front : Event
   pub rest : List Event
   pub pending : p .pending ≡ front ∷ rest
-  pub fields : wordsOf t .event ≡ eventFields front (p .words .errorCode) (p .words .instructionLength) (p .words .event)
+  pub fields : wordsOf t .event ≡ eventFields front (bit 0 (p .words .cr0)) (p .words .errorCode) (p .words .instructionLength) (p .words .event)
 
 -- an entry of s, after so many accepted ones, answers whether it resumes and returns t: the first launches, and stores its host stack number; each later one resumes,
 -- and leaves host RSP

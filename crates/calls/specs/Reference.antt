@@ -212,21 +212,24 @@ cr0Bounds l = record { must = bitAnd (l .cr0 .must) (bitNot 64 0x80000001); may 
 abbrev pub cr4Asked : ℕ → ℕ
 cr4Asked x = bitOr x 0x2000
 
--- ---- the fields of an event that an entry writes (document 01, "Events"; SDM 3C, 25.8.3)
+-- ---- the fields of an event that an entry writes (document 01, "Events"; document 02, N7; SDM 3C, 25.8.3)
 
 -- the interruption types of vectors 0 to 31; the others have type 0
 abbrev pub types : List ℕ
 types =
-    3 ∷ 5 ∷ 2 ∷ 6 ∷ 6 ∷ 3 ∷ 3 ∷ 3 ∷ 3 ∷ 3 ∷ 3 ∷ 3 ∷ 3 ∷ 3 ∷ 3 ∷ 3
-    ∷ 3 ∷ 3 ∷ 3 ∷ 3 ∷ 3 ∷ 7 ∷ 7 ∷ 7 ∷ 7 ∷ 7 ∷ 7 ∷ 7 ∷ 7 ∷ 7 ∷ 7 ∷ 7 ∷ []
+    3 ∷ 3 ∷ 2 ∷ 6 ∷ 6 ∷ 3 ∷ 3 ∷ 3 ∷ 3 ∷ 3 ∷ 3 ∷ 3 ∷ 3 ∷ 3 ∷ 3 ∷ 3
+    ∷ 3 ∷ 3 ∷ 3 ∷ 3 ∷ 3 ∷ 3 ∷ 7 ∷ 7 ∷ 7 ∷ 7 ∷ 7 ∷ 7 ∷ 7 ∷ 7 ∷ 7 ∷ 7 ∷ []
 
--- 1 for the vectors that carry an error code: 8, 10 to 14, 17
+-- 1 for the vectors that carry an error code: 8, 10 to 14, 17, 21
 abbrev pub codes : List ℕ
-codes = 0 ∷ 0 ∷ 0 ∷ 0 ∷ 0 ∷ 0 ∷ 0 ∷ 0 ∷ 1 ∷ 0 ∷ 1 ∷ 1 ∷ 1 ∷ 1 ∷ 1 ∷ 0 ∷ 0 ∷ 1 ∷ []
+codes = 0 ∷ 0 ∷ 0 ∷ 0 ∷ 0 ∷ 0 ∷ 0 ∷ 0 ∷ 1 ∷ 0 ∷ 1 ∷ 1 ∷ 1 ∷ 1 ∷ 1 ∷ 0 ∷ 0 ∷ 1 ∷ 0 ∷ 0 ∷ 0 ∷ 1 ∷ []
 
--- the entry interruption word of a vector: the vector, its type, whether it carries a code, and valid
-abbrev pub wordFor : ℕ → ℕ
-wordFor v = v + 2 ^ 8 * getD types v 0 + 2 ^ 11 * getD codes v 0 + 2 ^ 31
+-- the entry interruption word of a vector: the vector, its type, whether a code goes in, and valid. None goes in while CR0.PE is clear
+abbrev pub wordFor : (v : ℕ) (pe : Bool) → ℕ
+wordFor v pe = v + 2 ^ 8 * getD types v 0 + 2 ^ 11 * cond pe (getD codes v 0) 0 + 2 ^ 31
+
+abbrev pub codeGoesIn : (v : ℕ) (pe : Bool) → Dec ((getD codes v 0 ≡ 1) × (pe ≡ true))
+codeGoesIn v pe = both (ℕ-discrete (getD codes v 0) 1) (Bool-discrete pe true)
 
 -- its type is a soft one: 4, 5 or 6
 abbrev pub isSoft : (v : ℕ) → Dec ((4 ≤ getD types v 0) × (getD types v 0 ≤ 6))
@@ -238,12 +241,13 @@ pub record EventFields : Type 0 where
   pub code : ℕ
   pub length : ℕ
 
--- those of an event, in place of old ones: the caller's code, else that of the last exit; soft types copy the instruction length of the last exit
-abbrev pub eventFields : Event → (errorCode instructionLength : ℕ) → EventFields → EventFields
-eventFields e errorCode instructionLength old =
+-- those of an event, in place of old ones: the caller's code, else that of the last exit; soft types copy the instruction length of the last exit. A field that gets
+-- neither is as it was
+abbrev pub eventFields : Event → (pe : Bool) (errorCode instructionLength : ℕ) → EventFields → EventFields
+eventFields e pe errorCode instructionLength old =
     record {
-      info = wordFor (e .vector);
-      code = choose (ℕ-discrete (getD codes (e .vector) 0) 1) (Option·getD (e .code) errorCode) (old .code);
+      info = wordFor (e .vector) pe;
+      code = choose (codeGoesIn (e .vector) pe) (Option·getD (e .code) errorCode) (old .code);
       length = choose (isSoft (e .vector)) instructionLength (old .length);
     }
 
@@ -422,11 +426,12 @@ atSetup w block =
       supported = littleEndian 8 (drop Layout.XCR0_SUPPORTED block);
     }
 
+-- PE is bit 0 of CR0
 abbrev pub eventBy : Injection → List Event → Words → EventFields
 eventBy Empty pending w = w .event
 eventBy Held pending w = w .event
 eventBy Written [] w = w .event
-eventBy Written (e ∷ pending) w = eventFields e (w .errorCode) (w .instructionLength) (w .event)
+eventBy Written (e ∷ pending) w = eventFields e (bit 0 (w .cr0)) (w .errorCode) (w .instructionLength) (w .event)
 
 -- a held event sets interrupt-window exiting, primary bit 2
 abbrev pub controlsBy : Injection → Controls → Controls

@@ -35,23 +35,22 @@ typeNumbered n =
 unfoldable pub typeOf : ℕ → VmxInterruptionType
 typeOf word = typeNumbered (word / 2 ^ 8 % 8)
 
--- vectors 8, 10 to 14 and 17 carry an error code
+-- vectors 8, 10 to 14, 17 and 21 carry an error code (document 02, N7; SDM 3A, table 6-1)
 abbrev pub hasErrorCode : ℕ → Bool
 hasErrorCode vector =
     eqb vector Irq.DOUBLE_FAULT_VECTOR || eqb vector Irq.INVALID_TSS_VECTOR || eqb vector Irq.SEGMENT_NOT_PRESENT_VECTOR
     || eqb vector Irq.STACK_SEGEMENT_FAULT_VECTOR || eqb vector Irq.GENERAL_PROTECTION_FAULT_VECTOR || eqb vector Irq.PAGE_FAULT_VECTOR
-    || eqb vector Irq.ALIGNMENT_CHECK_VECTOR
+    || eqb vector Irq.ALIGNMENT_CHECK_VECTOR || eqb vector Irq.CONTROL_PROTECTION_VECTOR
 
--- vector 1 has type 5 as in the Rust, against the manual (document 01); the other vectors to 20 are hardware exceptions, 21 to 31 are of the type
--- "other event", the rest external interrupts
+-- vector 2 is NMI, 3 and 4 are software exceptions, the others to 21 hardware exceptions (document 02, N7, for 1 and 21); 22 to 31 are of the type "other event", the
+-- rest external interrupts
 unfoldable pub fromVector : ℕ → VmxInterruptionType
 fromVector vector =
-    cond (eqb vector Irq.DEBUG_VECTOR) PrivSoftException
-    (cond (eqb vector Irq.NONMASKABLE_INTERRUPT_VECTOR) NMI
+    cond (eqb vector Irq.NONMASKABLE_INTERRUPT_VECTOR) NMI
     (cond (eqb vector Irq.BREAKPOINT_VECTOR) SoftException
     (cond (eqb vector Irq.OVERFLOW_VECTOR) SoftException
-    (cond (leb vector Irq.VIRTUALIZATION_VECTOR) HardException
-    (cond (leb vector 31) Other External)))))
+    (cond (leb vector Irq.CONTROL_PROTECTION_VECTOR) HardException
+    (cond (leb vector 31) Other External))))
 
 -- the types whose injection takes an instruction length
 unfoldable pub isSoft : VmxInterruptionType → Bool

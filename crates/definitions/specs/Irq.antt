@@ -1,8 +1,5 @@
--- Vectors with a name (SDM 3A, table 6-1), as the crate x86 names them. Assumes nothing.
+-- Vectors with a name (SDM 3A, table 6-1), as the Rust has them from the crate x86; it does not name 21. Assumes nothing.
 use Prim.Native.Nat.{ℕ}
-
-abbrev pub DEBUG_VECTOR : ℕ
-DEBUG_VECTOR = 1
 
 abbrev pub NONMASKABLE_INTERRUPT_VECTOR : ℕ
 NONMASKABLE_INTERRUPT_VECTOR = 2
@@ -34,5 +31,5 @@ PAGE_FAULT_VECTOR = 14
 abbrev pub ALIGNMENT_CHECK_VECTOR : ℕ
 ALIGNMENT_CHECK_VECTOR = 17
 
-abbrev pub VIRTUALIZATION_VECTOR : ℕ
-VIRTUALIZATION_VECTOR = 20
+abbrev pub CONTROL_PROTECTION_VECTOR : ℕ
+CONTROL_PROTECTION_VECTOR = 21

@@ -1,6 +1,4 @@
-// Vectors with a name (SDM 3A, table 6-1), as the crate x86 names them.
-pub const DEBUG_VECTOR: u8 = 1;
-
+// Vectors with a name (SDM 3A, table 6-1), as the Rust has them from the crate x86; it does not name 21.
 pub const NONMASKABLE_INTERRUPT_VECTOR: u8 = 2;
 
 pub const BREAKPOINT_VECTOR: u8 = 3;
@@ -21,4 +19,4 @@ pub const PAGE_FAULT_VECTOR: u8 = 14;
 
 pub const ALIGNMENT_CHECK_VECTOR: u8 = 17;
 
-pub const VIRTUALIZATION_VECTOR: u8 = 20;
+pub const CONTROL_PROTECTION_VECTOR: u8 = 21;

@@ -81,7 +81,7 @@ pub fn type_of(word: u32) -> VmxInterruptionType
     VmxInterruptionType::Other
 }
 
-// Whether an exception with this vector has an error code.
+// Whether an exception with this vector has an error code in protected mode.
 pub fn vector_has_error_code(vector: u8) -> bool
     ensures { λ r. ⌜ r ≡ hasErrorCode vector ⌝ }
 {
@@ -92,15 +92,13 @@ pub fn vector_has_error_code(vector: u8) -> bool
         | (vector == irq::GENERAL_PROTECTION_FAULT_VECTOR)
         | (vector == irq::PAGE_FAULT_VECTOR)
         | (vector == irq::ALIGNMENT_CHECK_VECTOR)
+        | (vector == irq::CONTROL_PROTECTION_VECTOR)
 }
 
 // The type with which an event of this vector is injected.
 pub fn from_vector(vector: u8) -> VmxInterruptionType
     ensures { λ r. ⌜ r ≡ fromVector vector ⌝ }
 {
-    if vector == irq::DEBUG_VECTOR {
-        return VmxInterruptionType::PrivSoftException;
-    }
     if vector == irq::NONMASKABLE_INTERRUPT_VECTOR {
         return VmxInterruptionType::NMI;
     }
@@ -110,7 +108,7 @@ pub fn from_vector(vector: u8) -> VmxInterruptionType
     if vector == irq::OVERFLOW_VECTOR {
         return VmxInterruptionType::SoftException;
     }
-    if vector <= irq::VIRTUALIZATION_VECTOR {
+    if vector <= irq::CONTROL_PROTECTION_VECTOR {
         return VmxInterruptionType::HardException;
     }
     if vector <= 31 {

@@ -1,5 +1,6 @@
 // Prints the edges of documents 01 and 02 of the calls on a session, as the exported functions answer them: records, events, entries and reports. The lines are as in the program edges, and
 // tools/edges.py says what must be printed.
+mod events;
 mod reports;
 mod sessions;
 
@@ -73,6 +74,7 @@ fn main() {
     sessions::records();
     sessions::queues();
     sessions::entries();
+    events::events();
     sessions::apic_values();
     reports::reports();
     reports::control_registers();

@@ -6,7 +6,7 @@ ghost use mathlib.Core.Bool.{true};
 ghost use Prim.Native.Nat.{ℕ, _<_};
 ghost use Rattle.vcpu_session.specs.Session.{LAST_ENTRY, withVmcs, withQueue};
 ghost use Rattle.vcpu_events.specs.Queue.{frontOf};
-ghost use Rattle.vcpu_events.specs.Entry.{injectionOf, codeOf, withCode, withLength, injected, withStack, windowSet, vmcsAfter, queueAfter, afterEntry, entry};
+ghost use Rattle.vcpu_events.specs.Entry.{injectionOf, codeGoesIn, wordOf, codeOf, withCode, withLength, injected, withStack, windowSet, vmcsAfter, queueAfter, afterEntry, entry};
 ghost use Rattle.record.specs.Codec.{sessionOf, acceptedOf};
 ghost use Rattle.record_edits.specs.Holds.{Holds};
 use record::Record;
@@ -54,6 +54,22 @@ pub fn injection_at(b: &[u8]) -> Injection
 
 // ---- Injecting.
 
+// Whether an error code goes in with an event: CR0 is the session's at the entry.
+fn code_goes_in_at(b: &[u8], e: Event) -> bool
+    requires { ⌜ acceptedOf (now b) ≡ true ⌝ }
+    ensures { λ r. ⌜ r ≡ codeGoesIn (sessionOf (now (b .entry)) .vmcs) e ⌝ }
+{
+    vcpu_events::code_goes_in(e.vector, record::natural_at(b, VmcsGuestNW::CR0))
+}
+
+// The word that an entry writes for an event.
+fn word_at(b: &[u8], e: Event) -> u32
+    requires { ⌜ acceptedOf (now b) ≡ true ⌝ }
+    ensures { λ r. ⌜ r ≡ wordOf (sessionOf (now (b .entry)) .vmcs) e ⌝ }
+{
+    definitions::event_word(e.vector, code_goes_in_at(b, e))
+}
+
 // The error code that goes in with an event: the caller's, else the exit's.
 fn code_at(b: &[u8], e: Event) -> u32
     requires { ⌜ acceptedOf (now b) ≡ true ⌝ }
@@ -65,11 +81,12 @@ fn code_at(b: &[u8], e: Event) -> u32
     record::w32_at(b, VmcsReadOnly32::VMEXIT_INTERRUPTION_ERR_CODE)
 }
 
+// Where no code goes in, the field is kept.
 fn put_code(b: &mut [u8], e: Event)
     requires { ⌜ acceptedOf (now b) ≡ true ⌝ }
     ensures { λ _. ⌜ Holds (now (b .exit)) (withVmcs (sessionOf (now (b .entry))) (withCode (sessionOf (now (b .entry)) .vmcs) e)) ⌝ }
 {
-    if definitions::vector_has_error_code(e.vector) {
+    if code_goes_in_at(b, e) {
         let code = code_at(b, e);
         record_edits::put_w32(b, VmcsControl32::VMENTRY_EXCEPTION_ERR_CODE, code);
         return;
@@ -93,7 +110,7 @@ fn inject_event(b: &mut [u8], e: Event)
     requires { ⌜ acceptedOf (now b) ≡ true ⌝ }
     ensures { λ _. ⌜ Holds (now (b .exit)) (withVmcs (sessionOf (now (b .entry))) (injected (sessionOf (now (b .entry)) .vmcs) e)) ⌝ }
 {
-    let word = definitions::event_word(e.vector, definitions::vector_has_error_code(e.vector));
+    let word = word_at(b, e);
     put_code(b, e);
     put_length(b, e);
     record_edits::put_w32(b, VmcsControl32::VMENTRY_INTERRUPTION_INFO_FIELD, word);

@@ -1,4 +1,5 @@
-// An event goes in, by an entry with it at the front of the queue, and three fields are printed.
+// An event goes in, by an entry with it at the front of the queue, and three fields are printed. PE of CR0 is set: else no error code goes in, as it does in the
+// original. The list leaves out vectors 1 and 21, whose types are document 02's.
 use record::Record;
 use record::words;
 use vcpu_session::Phase;
@@ -10,9 +11,13 @@ const VMENTRY_EXCEPTION_ERR_CODE: u64 = 0x4018;
 
 const VMENTRY_INSTRUCTION_LEN: u64 = 0x401A;
 
+const CR0: u64 = 0x6800;
+
+const PROTECTED_MODE_ENABLE: u64 = 1;
+
 const RFLAGS: u64 = 0x6820;
 
-// The record of a session that is ready to enter, with interrupts on and the fields of a case. The phase and the read-only fields are put into the bytes.
+// The record of a session that is ready to enter, with PE set, interrupts on and the fields of a case. The phase and the read-only fields are put into the bytes.
 fn ready(n: [u64; 8]) -> [u8; Record::LENGTH] {
     let mut bytes = crate::new_record();
     words::put1(&mut bytes, Record::PHASE, Phase::READY);
@@ -26,6 +31,7 @@ fn ready(n: [u64; 8]) -> [u8; Record::LENGTH] {
         Record::W32 + 4 * VmcsReadOnly32::VMEXIT_INSTRUCTION_LEN,
         bits::low(n[4]),
     );
+    x86_vcpu::session::vcpu_write_field(&mut bytes, CR0, PROTECTED_MODE_ENABLE);
     x86_vcpu::session::vcpu_write_field(&mut bytes, RFLAGS, 0x200);
     x86_vcpu::session::vcpu_write_field(&mut bytes, VMENTRY_INTERRUPTION_INFO_FIELD, n[5]);
     x86_vcpu::session::vcpu_write_field(&mut bytes, VMENTRY_EXCEPTION_ERR_CODE, n[6]);

@@ -1,11 +1,12 @@
--- Injecting an event and entering the guest (document 01, "Events" and "Session"; SDM 3C, 25.8.3). Assumes nothing.
+-- Injecting an event and entering the guest (document 01, "Events" and "Session"; document 02, N7; SDM 3C, 25.8.3). Assumes nothing.
 use Prim.Native.Nat.{ℕ, _+_, _/_, _%_, _^_}
 use mathlib.Core.Bool.{Bool, true, false, cond, not, _&&_, _||_}
 use lib.Bits.{bitAnd, bitOr}
 use lib.Dec.{eqb, leb}
-use Rattle.bits.specs.Words.{bitNot}
+use Rattle.bits.specs.Words.{bit, bitNot}
 use Rattle.definitions.specs.Interruption.{hasErrorCode, fromVector, isSoft, eventWord}
 use Rattle.vmcs.specs.Field.{valueOf, put}
+use Rattle.vmcs.specs.Flags.Cr0Flags as Cr0Flags
 use Rattle.vmcs.specs.Flags.PrimaryControls as PrimaryControls
 use Rattle.vmcs.specs.Flags.RFlags as RFlags
 use Rattle.vmcs.specs.Names.VmcsControl32 as VmcsControl32
@@ -36,9 +37,16 @@ injectionOf q v =
     cond (eqb (q .waiting) 0) Empty
     (cond (isHeld (frontOf q .vector) (valueOf v VmcsGuestNW.RFLAGS) (valueOf v VmcsGuest32.INTERRUPTIBILITY_STATE)) Held Written)
 
--- the word that an entry writes for an event: its code goes in where the vector carries one
-abbrev pub wordOf : Event → ℕ
-wordOf e = eventWord (e .vector) (hasErrorCode (e .vector))
+-- a code goes in: the vector carries one, and PE of CR0 is set (document 02, N7; SDM 3C, 27.2.1.3)
+unfoldable pub codeIn : ℕ → ℕ → Bool
+codeIn vector cr0 = hasErrorCode vector && bit Cr0Flags.PROTECTED_MODE_ENABLE cr0
+
+abbrev pub codeGoesIn : Vmcs → Event → Bool
+codeGoesIn v e = codeIn (e .vector) (valueOf v VmcsGuestNW.CR0)
+
+-- the word that an entry writes for an event
+abbrev pub wordOf : Vmcs → Event → ℕ
+wordOf v e = eventWord (e .vector) (codeGoesIn v e)
 
 -- ---- the fields with an event to inject
 
@@ -46,8 +54,9 @@ wordOf e = eventWord (e .vector) (hasErrorCode (e .vector))
 unfoldable pub codeOf : Vmcs → Event → ℕ
 codeOf v e = cond (e .coded) (e .code) (valueOf v VmcsReadOnly32.VMEXIT_INTERRUPTION_ERR_CODE)
 
+-- where none goes in, the field is kept
 unfoldable pub withCode : Vmcs → Event → Vmcs
-withCode v e = cond (hasErrorCode (e .vector)) (put v VmcsControl32.VMENTRY_EXCEPTION_ERR_CODE (codeOf v e)) v
+withCode v e = cond (codeGoesIn v e) (put v VmcsControl32.VMENTRY_EXCEPTION_ERR_CODE (codeOf v e)) v
 
 -- soft types copy the exit instruction length
 unfoldable pub withLength : Vmcs → Event → Vmcs
@@ -55,7 +64,7 @@ withLength v e =
     cond (isSoft (fromVector (e .vector))) (put v VmcsControl32.VMENTRY_INSTRUCTION_LEN (valueOf v VmcsReadOnly32.VMEXIT_INSTRUCTION_LEN)) v
 
 unfoldable pub injected : Vmcs → Event → Vmcs
-injected v e = put (withLength (withCode v e) e) VmcsControl32.VMENTRY_INTERRUPTION_INFO_FIELD (wordOf e)
+injected v e = put (withLength (withCode v e) e) VmcsControl32.VMENTRY_INTERRUPTION_INFO_FIELD (wordOf v e)
 
 -- ---- the parts of a session after an entry
 

@@ -5,11 +5,12 @@ ghost use mathlib.Core.Path.{_≡_};
 ghost use Prim.Native.Nat.{_<_, _≤_, _-_};
 ghost use Rattle.bits.specs.Words.{withBit};
 ghost use Rattle.vcpu_session.specs.Session.{LAST_ENTRY};
-ghost use Rattle.vcpu_events.specs.Entry.{isHeld, progressAfter, injectionNumber};
+ghost use Rattle.vcpu_events.specs.Entry.{isHeld, codeIn, progressAfter, injectionNumber};
 ghost use mathlib.Core.Bool.{cond};
 use vcpu_session::Phase;
 use vcpu_session::Progress;
 use vcpu_session::Session;
+use vmcs::flags::Cr0Flags;
 use vmcs::flags::RFlags;
 
 // An event: a vector and, if one is given, an error code. The code is 0 where none is given.
@@ -72,6 +73,13 @@ pub fn is_held(vector: u8, rflags: u64, interruptibility: u32) -> bool
     ensures { λ r. ⌜ r ≡ isHeld vector rflags interruptibility ⌝ }
 {
     (32 <= vector) & (((rflags >> RFlags::INTERRUPT_FLAG) % 2 == 0) | (interruptibility != 0))
+}
+
+// An error code goes in with an event: its vector carries one, and the guest is in protected mode. In real-address mode no exception has one.
+pub fn code_goes_in(vector: u8, cr0: u64) -> bool
+    ensures { λ r. ⌜ r ≡ codeIn vector cr0 ⌝ }
+{
+    definitions::vector_has_error_code(vector) & ((cr0 >> Cr0Flags::PROTECTED_MODE_ENABLE) % 2 == 1)
 }
 
 // Running, launched, one entry more, and one held entry more where the event is held. The caller has tested 22.

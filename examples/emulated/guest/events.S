@@ -2,6 +2,18 @@
     begin   plain                       # does nothing
     finish  DONE_PLAIN
 
+    .macro  returns_to_next number, coded=0, code=0 # 0xEE in the log where the handler does not return right behind VMCALL
+    hypercall CALL_QUEUE \number \coded \code
+1:  nop
+    nop
+    nop
+    nop
+    cmpl    $1b, SAW(SAW_RETURN)
+    je      2f
+    note    0xEE
+2:
+    .endm
+
     begin   codes                       # exceptions with an error code, in protected mode: 14 with the caller's, 13 with the exit's
     protect 0x5FF0
     movl    $0x77, SAW(SAW_CODE_13)
@@ -19,24 +31,37 @@
     hypercall CALL_QUEUE 14 1 0x10002
     finish  DONE_PLAIN
 
-    begin   code_in_real_mode           # a general-protection fault with a code, where no mode has codes
-    hypercall CALL_QUEUE 0x0D 1 0x18
-    finish  DONE_PLAIN
+    begin   code_in_real_mode           # a general-protection fault with a code, where no event has one
+    returns_to_next 0x0D 1 0x18
+    finish  DONE_NO_CODE
 
-    .macro  returns_to_next number      # 0xEE in the log where the handler does not return right behind VMCALL
-    vector  \number h03
-    hypercall CALL_QUEUE \number
-1:  nop
+    begin   code_waits                  # the same, queued in protected mode behind an interrupt: both go in in real mode
+    protect 0x5FF0
+    hypercall CALL_QUEUE 14 1 2
+    hypercall CALL_QUEUE 0x20
+    hypercall CALL_QUEUE 0x0D 1 0x18
+    note    0xF0
+    real
+    sti
     nop
     nop
-    nop
-    cmpl    $1b, SAW(SAW_RETURN)
-    je      2f
-    note    0xEE
-2:
-    .endm
-    begin   breakpoint                  # INT1, INTO and INT3 go in where RIP is past VMCALL, whose length the last exit had
+    cli
+    note    0xF1
+    finish  DONE_NO_CODE
+
+    begin   debug                       # a debug exception goes in where RIP is past VMCALL, and has no length: real and protected mode
     returns_to_next 1
+    protect 0x5FF0
+    returns_to_next 1
+    finish  DONE_DEBUG
+
+    begin   control_protection          # in real mode without its code, in protected mode with it
+    hypercall CALL_QUEUE 21 1 3
+    protect 0x5FF0
+    hypercall CALL_QUEUE 21 1 3
+    finish  DONE_CONTROL_PROTECTION
+
+    begin   breakpoint                  # INTO and INT3 go in where RIP is past VMCALL, whose length the last exit had
     returns_to_next 4
     hypercall CALL_QUEUE 3
 1:  nop

@@ -47,6 +47,20 @@
     mov     $\stack, %esp
     .endm
 
+    .macro real                         # back to real mode, by a segment of 16 bits; no exit, since `protect` cleared CD and NW
+    ljmpl   $0x20, $.Lsixteen\@
+    .code16
+.Lsixteen\@:
+    mov     $0x10, %eax
+    mov     %eax, %cr0
+    ljmp    $0, $.Lreal\@
+.Lreal\@:
+    xor     %eax, %eax
+    mov     %eax, %ds
+    mov     %eax, %ss
+    lidtl   ivtr
+    .endm
+
 #include "handlers.S"
 #include "main.S"
 #include "modes.S"
@@ -55,24 +69,27 @@
 #include "accesses.S"
 
     .balign 8
-gdt:                                    # code and data of 4 GByte, code of 64-bit mode
-    .quad   0, 0x00CF9B000000FFFF, 0x00CF93000000FFFF, 0x00AF9B000000FFFF
+gdt:                                    # code and data of 4 GByte, code of 64-bit mode, code of 64 KByte
+    .quad   0, 0x00CF9B000000FFFF, 0x00CF93000000FFFF, 0x00AF9B000000FFFF, 0x00009B000000FFFF
 gdtr:
-    .word   31
+    .word   39
     .long   gdt
-idt:                                    # vectors 0 to 14 of protected mode
-    .rept   6
-    .quad   0
-    .endr
-    .word   p06, 8, 0x8E00, 0
-    .rept   6
-    .quad   0
-    .endr
-    .word   p13, 8, 0x8E00, 0
-    .word   p14, 8, 0x8E00, 0
+    .macro  gate number, handler
+    .org    idt + 8 * \number
+    .word   \handler, 8, 0x8E00, 0
+    .endm
+idt:                                    # vectors 0 to 21 of protected mode
+    gate    1 p01
+    gate    6 p06
+    gate    13 p13
+    gate    14 p14
+    gate    21 p21
 idtr:
-    .word   15 * 8 - 1
+    .word   22 * 8 - 1
     .long   idt
+ivtr:                                   # the vectors of real mode
+    .word   0x3FF
+    .long   0
 no_idt:
     .word   0
     .long   0

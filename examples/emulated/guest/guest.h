@@ -31,7 +31,7 @@
 #define ACCESS_READ 1
 #define ACCESS_WRITE 2
 #define START 0x8000 /* the guests; first the handler of vector 3 */
-#define MANY 0xA000
+#define MANY 0xB000
 #define MANY_ROOM 0x1000
 #define HOLE 0xE000 /* a page that the EPT lacks until it is touched */
 #define SERIAL 0x2F8 /* the first of the ports that the host has trapped */
@@ -60,7 +60,7 @@
 #define SAW_PE_NO_EXIT 22
 #define SAW_PE_EXIT 23
 #define SAW_VENDOR_PROTECTED 24
-#define SAW_RETURN 25    /* where the handler of vector 3 returns to */
+#define SAW_RETURN 25    /* where the last handler returns to, of those that look */
 #define SAW_RETURN_TO 26 /* where it should */
 #define SAW_CODE_14 27
 #define SAW_CODE_13 28
@@ -74,6 +74,7 @@
 #define SAW_AVX 40       /* from the upper half of YMM0; behind it the word that was put there */
 #define SAW_AREA 42      /* EBX of leaf 0xD before XSETBV, and after it */
 #define SAW_OSXSAVE 44   /* ECX of leaf 1 before CR4.OSXSAVE, and after it */
+#define SAW_CODE_21 46
 
 /* The last word: which checks the host makes, in a guest that came to its end. */
 #define DONE 0x67FC
@@ -89,6 +90,9 @@
 #define DONE_CODE 0x600D0009
 #define DONE_XCR0 0x600D000A
 #define DONE_ACCESSES 0x600D000B
+#define DONE_NO_CODE 0x600D000C
+#define DONE_DEBUG 0x600D000D
+#define DONE_CONTROL_PROTECTION 0x600D000E
 
 /* The bit of AVX in XCR0, and the word that the guest puts through YMM0. */
 #define XCR0_AVX 4

@@ -1,6 +1,7 @@
 # Handlers: each writes its vector to the log. Real mode first.
     .code16
-h03:                                    # at START, where the host expects it. A breakpoint: where does it return to?
+    .macro returns name, number         # where does it return to?
+\name:
     push    %bp
     mov     %sp, %bp
     pushl   %eax
@@ -8,8 +9,14 @@ h03:                                    # at START, where the host expects it. A
     mov     %eax, SAW(SAW_RETURN)
     popl    %eax
     pop     %bp
-    note    0x03
+    note    \number
     iret
+    .endm
+    returns h03 0x03                    # at START, where the host expects it
+    returns h01 0x01
+    returns h04 0x04
+    returns h0d 0x0D
+    returns h15 0x15
 
     .macro handler name, number
 \name:
@@ -41,30 +48,37 @@ h22:                                    # what the host queues when its timer ha
     iret
     .endm
     past    h06 0x06                    # UD2
-h0d:
-    note    0x0D
-    iret
 
     .macro vector number, handler
     movl    $\handler, 4 * \number
     .endm
 vectors:
+    vector  0x01 h01
     vector  0x02 h02
     vector  0x03 h03
+    vector  0x04 h04
     vector  0x06 h06
     vector  0x0D h0d
+    vector  0x15 h15
     vector  0x20 h20
     vector  0x21 h21
     vector  0x22 h22
     ret
 
-# Protected mode: the error code lies on top of the stack.
+# Protected mode: the error code, where there is one, lies on top of the stack.
     .code32
-p13:
-    popl    SAW(SAW_CODE_13)
-    note    0x0D
+p01:
+    popl    SAW(SAW_RETURN)
+    pushl   SAW(SAW_RETURN)
+    note    0x01
     iretl
-p14:
-    popl    SAW(SAW_CODE_14)
-    note    0x0E
+
+    .macro coded name, number, place
+\name:
+    popl    SAW(\place)
+    note    \number
     iretl
+    .endm
+    coded   p13 0x0D SAW_CODE_13
+    coded   p14 0x0E SAW_CODE_14
+    coded   p21 0x15 SAW_CODE_21

@@ -3,6 +3,7 @@
 
 use crate::archive;
 use crate::buffer::Results;
+use crate::events;
 use oracle::calls::QUEUE_ROOM;
 use oracle::record::{self, Reference};
 use oracle::{Call as Original, EntryEvent, FIELDS, FIELDS_BEFORE_TABLE, Failure, Oracle, PageWalk, refusal_number};
@@ -126,7 +127,7 @@ pub fn port(call: Call, record: *mut u8, length: usize) -> Reply {
     Reply { number, results }
 }
 
-/// The original's answer. What the session has beyond it follows from the answer.
+/// The original's answer. What the session has beyond it follows from the answer; of some events document 02 decides (`events.rs`).
 pub fn original(call: Call, oracle: &mut Oracle, reference: &mut Reference) -> Reply {
     match call {
         Call::QueueEvent { vector, coded, code } => {
@@ -163,7 +164,7 @@ pub fn original(call: Call, oracle: &mut Oracle, reference: &mut Reference) -> R
 }
 
 fn entry(host_stack: u64, oracle: &mut Oracle, reference: &mut Reference) -> Reply {
-    let entered = oracle.enter(host_stack).expect("an entry");
+    let entered = events::enter(oracle, host_stack);
     let event = match entered.event {
         EntryEvent::None => 0,
         EntryEvent::Held => 1,

@@ -9,6 +9,8 @@ use oracle::{Event, FIELDS, FIELDS_BEFORE_TABLE, FRAME_BYTES, State, field_bits}
 const WRONG_LENGTHS: [usize; 5] = [0, 1, LENGTH - 1, LENGTH + 1, 2 * LENGTH];
 const RFLAGS: u32 = 0x6820;
 const INTERRUPTIBILITY: u32 = 0x4824;
+/// Vectors with a type or a code that others lack, and their neighbours.
+const SPECIAL_VECTORS: [u8; 18] = [0, 1, 2, 3, 4, 7, 8, 9, 10, 11, 12, 13, 14, 16, 17, 20, 21, 22];
 
 /// A value that fits a field of this encoding.
 fn fitting(random: &mut Random, encoding: u32) -> u64 {
@@ -35,13 +37,19 @@ pub fn state(random: &mut Random) -> State {
     }
 }
 
+/// Any event, often of a special vector.
+fn event(random: &mut Random) -> Event {
+    let (vector, code) = random.event();
+    (if random.chance(40) { random.pick(&SPECIAL_VECTORS) } else { vector }, code)
+}
+
 fn events(random: &mut Random) -> Vec<Event> {
     let count = match random.below(10) {
         0..7 => random.below(6),
         7..9 => 60 + random.below(5),
         _ => random.below(65),
     };
-    (0..count).map(|_| random.event()).collect()
+    (0..count).map(|_| event(random)).collect()
 }
 
 pub fn reference(random: &mut Random) -> Reference {
@@ -68,11 +76,11 @@ pub fn reference(random: &mut Random) -> Reference {
 pub fn call(random: &mut Random, which: usize) -> Call {
     match which {
         0 => {
-            let (vector, code) = random.event();
+            let (vector, code) = event(random);
             let coded = if random.chance(3) { above(random, 1) } else { code.is_some() as u8 };
             Call::QueueEvent { vector, coded, code: random.word32() }
         }
-        1 => Call::InjectInterrupt { vector: if random.chance(95) { random.below(256) } else { random.word() } },
+        1 => Call::InjectInterrupt { vector: interrupt(random) },
         2 => Call::Entry { host_stack: random.word() },
         3 => Call::ApicValue { value: random.word() },
         4 => Call::ReadField { encoding: encoding(random) },
@@ -84,6 +92,15 @@ pub fn call(random: &mut Random, which: usize) -> Call {
         10 => Call::CpuMode { host_efer: random.word() },
         11 => Call::PageWalkInfo,
         _ => Call::Gla2gva { host_efer: random.word(), address: random.word() },
+    }
+}
+
+/// Often a vector that is never held.
+fn interrupt(random: &mut Random) -> u64 {
+    match random.below(20) {
+        0 => random.word(),
+        1..8 => random.below(32),
+        _ => random.below(256),
     }
 }
 

@@ -15,12 +15,16 @@ const CR0: u32 = 0x6800;
 const CR4: u32 = 0x6804;
 const PRIMARY: u32 = 0x4002;
 const ENTRY_INTERRUPTION: u32 = 0x4016;
+const ENTRY_ERROR_CODE: u32 = 0x4018;
+const ENTRY_INSTRUCTION_LENGTH: u32 = 0x401A;
 const HOST_CR3: u32 = 0x6C02;
 const HOST_TR: u32 = 0x0C0C;
 const HOST_RSP: u32 = 0x6C14;
 const HOST_TR_BASE: u32 = 0x6C0A;
 const RIP: u32 = 0x681E;
 const FAILED: u32 = 1 << 31;
+/// Protection enable, in CR0.
+const PE: u64 = 1;
 
 /// A record and its frames, moved by the archive's calls alone.
 struct Port {
@@ -75,6 +79,13 @@ impl Port {
 
     fn enter(&mut self) {
         assert_eq!(self.call(Call::Entry { host_stack: 0x7000 }).number, 0);
+    }
+
+    /// An event with a code, and the entry that writes it: its word and the code's field.
+    fn coded_event(&mut self, vector: u8, code: u32) -> String {
+        assert_eq!(self.call(Call::QueueEvent { vector, coded: 1, code }).number, 0);
+        self.enter();
+        format!("{:#x}, code {:#x}", self.field(ENTRY_INTERRUPTION), self.field(ENTRY_ERROR_CODE))
     }
 
     fn field(&mut self, encoding: u32) -> u64 {
@@ -152,7 +163,7 @@ struct Kept {
     port: fn() -> String,
 }
 
-const KEPT: [Kept; 46] = [
+const KEPT: [Kept; 49] = [
     Kept {
         name: "bitmap length",
         document: "accepted, bytes change; byte 1,024 of A is 0x1",
@@ -403,6 +414,29 @@ const KEPT: [Kept; 46] = [
             Port::new().number(|port| port.setup(&setup))
         },
     },
+    Kept {
+        name: "vector 1",
+        document: "answer [a, 0, 0]; 0x80000301, length 0x0",
+        port: || {
+            let mut port = Port::running();
+            let text = answer(port.report(12, |_| ()));
+            port.queue(1);
+            port.enter();
+            let [word, length] = [ENTRY_INTERRUPTION, ENTRY_INSTRUCTION_LENGTH].map(|encoding| port.field(encoding));
+            format!("{text}; {word:#x}, length {length:#x}")
+        },
+    },
+    Kept {
+        name: "vector 21",
+        document: "0x80000b15, code 0x7",
+        port: || {
+            let mut port = Port::ready();
+            let value = port.field(CR0) | PE;
+            assert_eq!(port.call(Call::WriteField { encoding: CR0 as u64, value }).number, 0);
+            port.coded_event(21, 7)
+        },
+    },
+    Kept { name: "codes in real mode", document: "0x8000030e, code 0x0", port: || Port::ready().coded_event(14, 2) },
     Kept {
         name: "other APIC accesses",
         document: "refused 21, nothing changes; refused 21, nothing changes",

@@ -11,6 +11,7 @@ mod buffer;
 mod calls;
 mod choose;
 mod control;
+mod events;
 mod intercepts;
 mod kept;
 mod page_walk;

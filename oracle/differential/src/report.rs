@@ -23,6 +23,8 @@ const MASK_REFUSED: u32 = 15;
 const TYPE_REFUSED: u32 = 16;
 const CR0_MASK: u32 = 0x6000;
 const CR4_MASK: u32 = 0x6002;
+/// Protection enable, in CR0.
+const PE: u64 = 1;
 const CR_ACCESS: u32 = 28;
 const IO_INSTRUCTION: u32 = 30;
 /// In the entry controls.
@@ -30,6 +32,16 @@ const IA32E_MODE: u64 = 0x200;
 /// Size 8, and neither a string nor a repeated instruction.
 const QWORD: u64 = 7;
 const STRING_OR_REPEATED: u64 = 0x30;
+
+/// A report in the running phase. Half of them have PE set, where the mask leaves it to the guest, so that entries after them give codes and give none.
+pub fn any(session: &mut Session, random: &mut Random) -> Report {
+    let mut report = random.report(&mut session.oracle);
+    let owned = session.oracle.read_field(CR0_MASK).expect("a field");
+    if owned & PE == 0 {
+        report.cr0 = report.cr0 & !PE | random.below(2) * PE;
+    }
+    report
+}
 
 /// What the original does with a report.
 pub fn original(session: &mut Session, report: &Report) -> Outcome<Answer> {
@@ -58,7 +70,7 @@ pub fn port(record: &mut Buffer, length: usize, block: &[u8]) -> Reply {
 
 /// One report in the running phase.
 pub fn step(session: &mut Session, random: &mut Random, trials: &mut Trials, tally: &mut Tally) {
-    let report = random.report(&mut session.oracle);
+    let report = any(session, random);
     let outcome = original(session, &report);
     let reply = trials.report(&mut session.ours, LENGTH, &report.block());
     session.check(tally, expected(&report, &outcome), reply, || format!("{report:x?}"));
@@ -71,7 +83,7 @@ fn crowded_step(session: &mut Session, random: &mut Random, trials: &mut Trials,
         session.oracle.store_capabilities(&session.reference.kept);
         session.place();
     }
-    let mut report = random.report(&mut session.oracle);
+    let mut report = any(session, random);
     (report.reason, report.qualification) = (CR_ACCESS, 0);
     (report.registers[0], report.efer) = (1 << 31 | random.word(), 0x100);
     report.rip = u64::MAX - random.below(8);
@@ -82,7 +94,7 @@ fn crowded_step(session: &mut Session, random: &mut Random, trials: &mut Trials,
 
 /// An I/O size of 8: as the original, but the answer is Halt.
 fn qword_step(session: &mut Session, random: &mut Random, trials: &mut Trials, tally: &mut Tally) {
-    let mut report = random.report(&mut session.oracle);
+    let mut report = any(session, random);
     report.reason = IO_INSTRUCTION;
     report.qualification = report.qualification & !STRING_OR_REPEATED | QWORD;
     let outcome = original(session, &report).map(|_| Answer::Halt);
@@ -126,7 +138,7 @@ pub fn spoil_masked_bit(session: &mut Session, random: &mut Random, report: &mut
 
 /// A call that document 01 refuses: by what the report says, by the phase, or by the bytes.
 fn refused_step(session: &mut Session, random: &mut Random, trials: &mut Trials, tally: &mut Tally) {
-    let mut report = random.report(&mut session.oracle);
+    let mut report = any(session, random);
     let mut number = spoil(session, random, &mut report);
     let mut ours = Buffer::new(2 * LENGTH);
     ours.content_mut()[..LENGTH].copy_from_slice(session.ours.content());

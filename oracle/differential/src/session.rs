@@ -3,7 +3,7 @@
 //! what document 01 adds (phase, counts, capability words) and document 02 (XCR0, its supported bits). After each call XCR0 is read too.
 //!
 //! Where the original can't be asked (`calls::outside`), the port must refuse with document 01's number and change nothing. These are
-//! counted on lines of their own.
+//! counted on lines of their own, and so are entries whose event is document 02's (`events.rs`).
 //!
 //! Before each entry of the port its trial is made (`trials.rs`).
 
@@ -11,20 +11,36 @@ use crate::archive;
 use crate::buffer::Buffer;
 use crate::calls::{self, Call, NAMES, Reply};
 use crate::choose;
+use crate::events::Met;
 use crate::report;
 use crate::tally::{Tally, Totals};
 use crate::trials::Trials;
 use oracle::generate::Random;
 use oracle::record::{self, LENGTH, Reference};
-use oracle::{FRAME_BYTES, Oracle};
+use oracle::{Event, FRAME_BYTES, Oracle, State};
 
 /// A sequence starts anew with another state after so many calls.
 const CALLS: u64 = 100;
+/// Places in `NAMES`.
+const ENTRY: usize = 2;
+const APIC_VALUE: usize = 3;
+const WRITE_FIELD: usize = 5;
+
+const CR0: u32 = 0x6800;
+const CR0_READ_SHADOW: u32 = 0x6004;
+/// Protection enable, in CR0.
+const PE: u64 = 1;
+const RFLAGS: u64 = 0x6820;
+const INTERRUPT_FLAG: u64 = 0x200;
+const INTERRUPTIBILITY: u64 = 0x4824;
 
 /// The lines of the functions, in the order of `NAMES`.
 pub struct Lines {
     inside: Vec<Tally>,
     outside: Vec<Tally>,
+    /// Entries whose event is document 02's.
+    events: Tally,
+    met: Met,
 }
 
 impl Lines {
@@ -32,6 +48,8 @@ impl Lines {
         Lines {
             inside: NAMES.iter().map(|name| Tally::new(name)).collect(),
             outside: NAMES.iter().map(|name| Tally::new(&format!("{name}, refusals (document 01)"))).collect(),
+            events: Tally::new("vcpu_entry, events of document 02"),
+            met: Met::default(),
         }
     }
 
@@ -40,6 +58,13 @@ impl Lines {
             totals.add(inside);
             totals.add(outside);
         });
+        totals.add(self.events);
+        println!("entries by the event in front: {}", self.met.text());
+    }
+
+    /// The line of a call that the original is asked about.
+    fn asked(&mut self, which: usize, call: Call, oracle: &Oracle) -> &mut Tally {
+        if self.met.count(call, oracle) { &mut self.events } else { &mut self.inside[which] }
     }
 }
 
@@ -116,7 +141,10 @@ impl Session {
         let (phase, waiting) = (self.reference.phase, self.oracle.events().len());
         let (tally, expected) = match calls::outside(call, self.ours.content(), LENGTH) {
             Some(number) => (&mut lines.outside[which], Reply::refused(number)),
-            None => (&mut lines.inside[which], calls::original(call, &mut self.oracle, &mut self.reference)),
+            None => {
+                let tally = lines.asked(which, call, &self.oracle);
+                (tally, calls::original(call, &mut self.oracle, &mut self.reference))
+            }
         };
         let reply = trials.call(call, &mut self.ours, LENGTH);
         self.check(tally, expected, reply, || format!("{call:x?} in phase {phase}, {waiting} events waiting"));
@@ -164,7 +192,12 @@ impl Session {
             return self.put_phase(random.below(record::ENDED as u64 + 1) as u8);
         }
         match call {
-            Call::Entry { .. } => self.make_ready(random, trials, lines, reports),
+            Call::Entry { .. } => {
+                self.make_ready(random, trials, lines, reports);
+                if random.chance(50) {
+                    self.open_window(trials, lines);
+                }
+            }
             Call::ApicValue { .. } => self.put_phase(record::WAITING_PHASE),
             Call::QueueEvent { .. } | Call::InjectInterrupt { .. } if self.reference.phase == record::ENDED => {
                 self.put_phase(random.below(record::ENDED as u64) as u8)
@@ -179,14 +212,42 @@ impl Session {
             report::step(self, random, trials, reports);
         }
         if self.reference.phase == record::WAITING_PHASE {
-            self.call(trials, lines, 3, Call::ApicValue { value: random.word() });
+            self.call(trials, lines, APIC_VALUE, Call::ApicValue { value: random.word() });
         }
         self.put_phase(record::READY);
+    }
+
+    /// So that the next entry holds no event.
+    fn open_window(&mut self, trials: &mut Trials, lines: &mut Lines) {
+        for (encoding, value) in [(RFLAGS, INTERRUPT_FLAG), (INTERRUPTIBILITY, 0)] {
+            self.call(trials, lines, WRITE_FIELD, Call::WriteField { encoding, value });
+        }
     }
 
     pub fn put_phase(&mut self, phase: u8) {
         self.reference.phase = phase;
         self.ours.content_mut()[record::PHASE] = phase;
+    }
+
+    /// Any state in which the next entry has this event and this PE; the read shadow says the opposite of PE.
+    fn place_event(&mut self, random: &mut Random, event: Event, protected: bool) {
+        self.oracle.put(&State { events: vec![event], ..choose::state(random) });
+        for (encoding, set) in [(CR0, protected), (CR0_READ_SHADOW, !protected)] {
+            self.oracle.store_field(encoding, random.word() & !PE | set as u64);
+        }
+        self.reference = Reference { phase: record::READY, ..Reference::default() };
+        self.place();
+    }
+}
+
+/// An entry with each vector, with PE clear and set, with a code and without.
+fn every_event(session: &mut Session, random: &mut Random, trials: &mut Trials, lines: &mut Lines) {
+    for vector in 0..=255 {
+        for (protected, coded) in [(false, false), (false, true), (true, false), (true, true)] {
+            let code = coded.then(|| random.word32());
+            session.place_event(random, (vector, code), protected);
+            session.call(trials, lines, ENTRY, Call::Entry { host_stack: random.word() });
+        }
     }
 }
 
@@ -195,6 +256,7 @@ pub fn run(random: &mut Random, cases: u64, totals: &mut Totals) {
     let mut lines = Lines::new();
     let mut reports = Tally::new("vcpu_exit_report, between other calls");
     let mut session = Session::new();
+    every_event(&mut session, random, &mut totals.trials, &mut lines);
     for i in 0..cases * NAMES.len() as u64 {
         if i % CALLS == 0 {
             session.start(random);

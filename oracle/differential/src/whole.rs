@@ -2,12 +2,14 @@
 //! port's record and frames. After each call the number, the results, every byte of the record and of the three frames are compared. Before each call that
 //! has a trial its trial is made (`trials.rs`).
 //!
-//! Some sessions are on a board without the TRUE words. Document 02 decides of them (`setup::used`), so all their calls are on a line of their own.
+//! Some sessions are on a board without the TRUE words. Document 02 decides of them (`setup::used`), so all their calls are on a line of their own. So are
+//! entries of other sessions whose event is document 02's (`events.rs`).
 
 use crate::archive;
 use crate::buffer::Buffer;
 use crate::calls::{self, Call, Reply};
 use crate::choose;
+use crate::events::Met;
 use crate::report;
 use crate::session::Session;
 use crate::setup;
@@ -22,6 +24,8 @@ use oracle::{Call as Original, FRAME_BYTES, Outcome, Report, refusal_number};
 const SHARE: u64 = 4;
 /// A session is left after so many calls, if no entry failed before.
 const CALLS: u64 = 400;
+/// Its place in `calls::NAMES`.
+const QUEUE_EVENT: usize = 0;
 const REASONS: usize = 65;
 const ANSWERS: usize = 12;
 const FRAMES: [&str; 3] = ["I/O A", "I/O B", "MSR"];
@@ -34,14 +38,16 @@ enum Line {
     Calls,
     Reports,
     Xsetbv,
+    Events,
     PlainWords,
 }
 
 /// In the order of `Line`.
-const LINES: [&str; 4] = [
+const LINES: [&str; 5] = [
     "whole sessions, calls",
     "whole sessions, exit reports",
     "whole sessions, XSETBV (document 02)",
+    "whole sessions, events of document 02",
     "whole sessions, plain words (document 02)",
 ];
 
@@ -54,6 +60,7 @@ struct Counts {
     exits: u64,
     reasons: [u64; REASONS],
     answers: [u64; ANSWERS],
+    met: Met,
 }
 
 impl Counts {
@@ -65,6 +72,7 @@ impl Counts {
             exits: 0,
             reasons: [0; REASONS],
             answers: [0; ANSWERS],
+            met: Met::default(),
         }
     }
 
@@ -93,6 +101,7 @@ impl Counts {
             least(&self.reasons),
             least(&self.answers)
         );
+        println!("whole sessions: entries by the event in front: {}", self.met.text());
         self.lines.into_iter().for_each(|line| totals.add(line));
     }
 }
@@ -157,7 +166,7 @@ impl Whole {
     }
 
     fn report(&mut self, random: &mut Random, trials: &mut Trials, counts: &mut Counts) {
-        let report = random.report(&mut self.session.oracle);
+        let report = report::any(&mut self.session, random);
         let outcome = report::original(&mut self.session, &report);
         let expected = report::expected(&report, &outcome);
         counts.exit(&report, &expected);
@@ -176,7 +185,7 @@ impl Whole {
 
     /// A report that document 01 refuses and the original does not: it changes nothing.
     fn refused_report(&mut self, random: &mut Random, trials: &mut Trials, tally: &mut Tally) {
-        let mut report = random.report(&mut self.session.oracle);
+        let mut report = report::any(&mut self.session, random);
         let number = report::spoil(&mut self.session, random, &mut report);
         let reply = trials.report(&mut self.session.ours, LENGTH, &report.block());
         self.check(tally, Reply::refused(number), reply, || format!("{report:x?}"));
@@ -210,14 +219,18 @@ impl Whole {
     }
 
     /// A call on the session by its arguments, refused or not.
-    fn call(&mut self, trials: &mut Trials, tally: &mut Tally, call: Call) {
+    fn call(&mut self, trials: &mut Trials, counts: &mut Counts, call: Call) {
         let phase = self.session.reference.phase;
-        let expected = match calls::outside(call, self.session.ours.content(), LENGTH) {
-            Some(number) => Reply::refused(number),
-            None => calls::original(call, &mut self.session.oracle, &mut self.session.reference),
+        let Session { oracle, reference, ours, .. } = &mut self.session;
+        let (line, expected) = match calls::outside(call, ours.content(), LENGTH) {
+            Some(number) => (Line::Calls, Reply::refused(number)),
+            None => {
+                let line = if counts.met.count(call, oracle) { Line::Events } else { Line::Calls };
+                (line, calls::original(call, oracle, reference))
+            }
         };
-        let reply = trials.call(call, &mut self.session.ours, LENGTH);
-        self.check(tally, expected, reply, || format!("{call:x?} in phase {phase}"));
+        let reply = trials.call(call, ours, LENGTH);
+        self.check(counts.line(line), expected, reply, || format!("{call:x?} in phase {phase}"));
     }
 
     /// The call that brings the session on, or another.
@@ -225,21 +238,18 @@ impl Whole {
         let on = random.chance(50);
         match self.session.reference.phase {
             record::FRESH if on => self.set_up(random, counts),
-            record::READY if on => {
-                self.call(trials, counts.line(Line::Calls), Call::Entry { host_stack: random.word() })
-            }
+            record::READY if on => self.call(trials, counts, Call::Entry { host_stack: random.word() }),
             record::RUNNING if on && random.chance(10) => self.xsetbv(random, trials, counts),
             record::RUNNING if on => self.report(random, trials, counts),
             record::RUNNING if random.chance(5) => self.refused_report(random, trials, counts.line(Line::Reports)),
-            record::WAITING_PHASE if on => {
-                self.call(trials, counts.line(Line::Calls), Call::ApicValue { value: random.word() })
-            }
+            record::WAITING_PHASE if on => self.call(trials, counts, Call::ApicValue { value: random.word() }),
             _ => match random.below(10) {
                 0 => self.edit_ports(random, trials, counts.line(Line::Calls)),
                 1 => self.edit_msr(random, trials, counts.line(Line::Calls)),
+                2 | 3 => self.call(trials, counts, choose::call(random, QUEUE_EVENT)),
                 _ => {
                     let which = random.below(calls::NAMES.len() as u64) as usize;
-                    self.call(trials, counts.line(Line::Calls), choose::call(random, which));
+                    self.call(trials, counts, choose::call(random, which));
                 }
             },
         }

@@ -95,7 +95,7 @@ pub fn expected(session: &mut Session, report: &Report) -> Reply {
 
 /// A report of this exit and this value, with anything in the registers' high halves.
 fn report_of(session: &mut Session, random: &mut Random, value: u64) -> Report {
-    let mut report = random.report(&mut session.oracle);
+    let mut report = report::any(session, random);
     report.reason = report.reason & 0x7FFF_0000 | XSETBV;
     report.registers[0] = random.word() << 32 | value & 0xFFFF_FFFF;
     report.registers[1] = random.word() << 32;

@@ -5,6 +5,8 @@
 //! than 33, 34 and 41, CR0 and CR4 as their masks demand, fixed bits that agree, a host CR3 that is a
 //! frame, a TR selector with a following descriptor. Of XSETBV and of processors without the TRUE words
 //! document 02 decides: the comparable domain has none, and bit 55 of IA32_VMX_BASIC is set in every setup.
+//! It also decides of vectors 1 and 21 and of codes while CR0.PE is clear; these are among the events, and the
+//! comparison with the port sees to them (differential/src/events.rs).
 
 use crate::{Capabilities, HostWords, Oracle, Report, Setup, VMX_FLEX_CONTROLS};
 

@@ -11,13 +11,12 @@ edited c =
     let second = third .before .before .before .before in
     let first = second .before .before .before .before in
     let word = first .before .before in
-    rw (second .put-length .ensures .session, first .put-code .ensures .session, word .event-word .ensures, word .before .vector-has-error-code .ensures) at (third .put-w32 .ensures)
+    rw (second .put-length .ensures .session, first .put-code .ensures .session, word .word-at .ensures) at (third .put-w32 .ensures)
 
 pub inject-event-spec : {M : Type 1} → statement M
 inject-event-spec =
     tie.close
     (tie.spec
-    (λ c κs. search needs)
     (λ c κs. search needs)
     (λ c κs. search needs)
     (λ c κs. search needs)

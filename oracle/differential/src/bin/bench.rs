@@ -3,7 +3,7 @@
 //!
 //!   bench
 //!
-//! Setup and each exit report are first made on both sides and compared, each trial with its call, and each page walk with its answer.
+//! Setup, an event and each exit report are first made on both sides and compared, each trial with its call, and each page walk with its answer.
 
 #[path = "../archive.rs"]
 #[allow(dead_code)]
@@ -18,6 +18,10 @@ use std::hint::black_box;
 use std::time::Instant;
 
 const BATCHES: usize = 401;
+
+const CR0: u32 = 0x6800;
+/// Protection enable, in CR0.
+const PE: u64 = 1;
 
 /// The length of the largest trap sheet.
 const SHEET_LARGEST: usize = 2_015_355;
@@ -277,6 +281,21 @@ impl Bench {
         println!("| {name} | - | {:.1} | - |", median(times));
     }
 
+    /// Sets PE, without which the port gives no code, so that both sides do the same with a page fault: its word and its code go in.
+    fn prepare_page_faults(&mut self) {
+        let value = self.port.field(CR0 as u64) | PE;
+        let Bench { port, oracle, .. } = self;
+        assert_eq!(port!(vcpu_write_field(port.record.as_mut_ptr(), LENGTH, CR0 as u64, value)), 0);
+        oracle.write_field(CR0, value).expect("CR0");
+        // The entry's event is 2: written.
+        assert_eq!((port.queue(14, 5), port.enter(0)), (0, 2));
+        oracle.queue_event(14, Some(5));
+        oracle.bare(|vcpu| access::inject_pending_events(vcpu)).expect("an event");
+        for (encoding, value) in [(0x4016, 0x8000_0B0E), (0x4018, 5)] {
+            assert_eq!((port.field(encoding as u64), oracle.read_field(encoding)), (value, Ok(value)));
+        }
+    }
+
     /// Makes this the report of both sides; both must answer the same to it.
     fn prepare_report(&mut self, mut report: Report) {
         // Twice: the first may move a control register, which the second must report.
@@ -409,6 +428,7 @@ fn events_and_entries(bench: &mut Bench) {
     );
     bench.port.waiting(0);
     bench.oracle.bare(|vcpu| access::events_mut(vcpu).clear());
+    bench.prepare_page_faults();
     bench.goal_row(
         1.5,
         "event: queued, and its word written by an entry",

@@ -63,6 +63,7 @@ fn worked(sheet: &mut Sheet) {
     let bytes: Vec<_> = bare.frames()[2].iter().enumerate().filter(|(_, byte)| **byte != 0).collect();
     sheet.line("P7 write of MSR 0xC0000080: byte 3088, bit 0", "[(3088, 1)]", &format!("{bytes:?}"));
 
+    // Document 01's words, as the original has them. The port follows document 02 (N7) for vector 21, and for codes while CR0.PE is clear, as it is here.
     for (name, vector, code, expected) in
         [("P8 vector 14, code 2", 14, Some(2), 0x8000_0B0E), ("P9 vector 21", 21, None, 0x8000_0715)]
     {
@@ -138,7 +139,7 @@ fn edges(sheet: &mut Sheet) {
 fn facts(sheet: &mut Sheet) {
     sheet.line("fields without VmcsControl16", "154", &(FIELDS.len() - FIELDS_BEFORE_TABLE).to_string());
 
-    // Types and codes of all vectors, by document 01.
+    // Types and codes of all vectors, by document 01; of 1 and 21 the port follows document 02 (N7).
     let document_type = |vector: u8| match vector {
         1 => 5,
         2 => 2,
@@ -247,7 +248,7 @@ fn facts(sheet: &mut Sheet) {
         sheet.hex(name, expected, bit);
     }
 
-    // Soft events copy the exit instruction length; a code is the caller's, else the exit's.
+    // Soft events copy the exit instruction length; a code is the caller's, else the exit's. The port's words of 1 and of 14 are document 02's (N7).
     let mut oracle = ready();
     oracle.exit_clears_entry_valid = false;
     let mut report = report(&mut oracle, 12);

@@ -58,10 +58,18 @@ fn fields(oracle: &mut Oracle, encodings: &[u32]) -> String {
     encodings.iter().map(one).collect::<Vec<_>>().join(", ")
 }
 
-/// Those that document 02 decides; document 01 decides the others.
-const BY_DOCUMENT_02: [&str; 4] = ["XSETBV", "XCR0 values", "first XCR0", "no TRUE words"];
+/// The word and the code's field that an entry leaves, which writes this event.
+fn coded_event(oracle: &mut Oracle, vector: u8, code: u32) -> String {
+    oracle.queue_event(vector, Some(code));
+    oracle.enter(0).expect("entry");
+    fields(oracle, &[0x4016, 0x4018])
+}
 
-const DIFFERENCES: [Difference; 46] = [
+/// Those that document 02 decides; document 01 decides the others.
+const BY_DOCUMENT_02: [&str; 7] =
+    ["XSETBV", "XCR0 values", "first XCR0", "no TRUE words", "vector 1", "vector 21", "codes in real mode"];
+
+const DIFFERENCES: [Difference; 49] = [
     Difference {
         name: "bitmap length",
         input: "port edit, port 0x2000, count 1",
@@ -377,6 +385,33 @@ const DIFFERENCES: [Difference; 46] = [
             let text = failure(oracle.setup(&args));
             format!("{text}; {}", fields(&mut oracle, &[0x4002]))
         },
+    },
+    Difference {
+        name: "vector 1",
+        input: "exit report, reason 12, instruction length 2; vector 1 is queued, then an entry",
+        document: "0x4016 0x80000301, 0x401A stays 0",
+        original: || {
+            let (text, mut oracle) = exit_with(12, |_| ());
+            oracle.queue_event(1, None);
+            oracle.enter(0).expect("entry");
+            format!("{text}; {}", fields(&mut oracle, &[0x4016, 0x401A]))
+        },
+    },
+    Difference {
+        name: "vector 21",
+        input: "setup; a write of 0x31, which has PE, to CR0; vector 21 is queued with code 7, then an entry",
+        document: "0x4016 0x80000B15, 0x4018 7",
+        original: || {
+            let mut oracle = ready();
+            oracle.write_field(0x6800, 0x31).expect("CR0");
+            coded_event(&mut oracle, 21, 7)
+        },
+    },
+    Difference {
+        name: "codes in real mode",
+        input: "setup, which leaves CR0.PE clear; vector 14 is queued with code 2, then an entry",
+        document: "0x4016 0x8000030E, 0x4018 stays 0",
+        original: || coded_event(&mut ready(), 14, 2),
     },
     Difference {
         name: "other APIC accesses",

@@ -1,6 +1,6 @@
 // Exit reasons, interruption types and the word of an event.
 // Ported from x86_vcpu src/vmx/definitions.rs and VmxInterruptInfo of src/vmx/vmcs.rs (Copyright 2025 The Axvisor Team, Apache-2.0).
-// Changed: exit reasons are numbers, and the texts of VM-instruction errors are left out.
+// Changed: exit reasons are numbers, the texts of VM-instruction errors are left out, and vectors 1 and 21 are hardware exceptions, 21 with an error code.
 ghost use mathlib.Core.Path.{_≡_};
 ghost use Rattle.definitions.specs.Interruption.{typeNumber, typeOf, hasErrorCode, fromVector, isSoft, eventWord};
 

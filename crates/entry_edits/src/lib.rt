@@ -1,6 +1,6 @@
 // An entry done in place on the record of a session: it reads what it needs, and writes only the bytes that change.
 // Ported from `inner_run` before the exit and `inject_pending_events` of x86_vcpu src/vmx/vcpu.rs, and `inject_event` of src/vmx/vmcs.rs (Copyright 2025 The
-// Axvisor Team, Apache-2.0). Changed: the session is the bytes of a record, and the entry itself is the host's.
+// Axvisor Team, Apache-2.0). Changed: the session is the bytes of a record, no error code goes in while CR0.PE is clear, and the entry itself is the host's.
 ghost use mathlib.Core.Path.{_≡_};
 ghost use mathlib.Core.Bool.{true};
 ghost use Prim.Native.Nat.{ℕ, _<_};

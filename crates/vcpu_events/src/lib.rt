@@ -1,6 +1,6 @@
 // Queueing and injecting events, and entering the guest.
 // Ported from x86_vcpu src/vmx/vcpu.rs and inject_event of src/vmx/vmcs.rs (Copyright 2025 The Axvisor Team, Apache-2.0). Changed: the queue
-// holds 64 events; what the Rust panics at is refused by a number; the entry itself is the host's.
+// holds 64 events; no error code goes in while CR0.PE is clear; what the Rust panics at is refused by a number; the entry itself is the host's.
 ghost use mathlib.Core.Path.{_≡_};
 ghost use Prim.Native.Nat.{_<_, _≤_, _-_};
 ghost use Rattle.bits.specs.Words.{withBit};

@@ -1,6 +1,6 @@
 -- The cases that document 01 works by hand, P1 to P13, and P8 and P9 as document 02 has them (N7): each with what the definitions give, and what it should be. Assumes nothing.
 use Prim.Native.Nat.{ℕ}
-use mathlib.Core.Bool.{cond, true, false}
+use mathlib.Core.Bool.{cond, true}
 use mathlib.Core.List.{List, [], _∷_}
 use Rattle.vmcs.specs.Control.{setControl, ControlNumbers, controlNumbers}
 use Rattle.vmcs.specs.Field.{valueOf, put}

@@ -44,6 +44,14 @@ def ports():
     edge(name, 1, 2**32 - 1, 1, Refused(10))
 
 
+def port_orders():
+    """One edit sets a port's intercept and another clears a port's, in both orders: byte 192 of A, of which bit 5, port 0x605, is set before. N8: on one port the last
+    one decides; on two ports the order does not matter."""
+    name = "set_io_intercept_of_range, both orders"
+    edge(name, 0x604, 0x604, [0x20, 0x30])
+    edge(name, 0x604, 0x605, [0x10, 0x10])
+
+
 def msrs():
     """Bytes 1,040 and 3,088. P7: the write of MSR 0xC0000080 is bit 0 of byte 3,088; its read is in the quarter "read high"."""
     names = ["set_read_intercept", "set_write_intercept", "set_msr_intercept_of_range"]
@@ -584,7 +592,7 @@ def tried_msrs():
 
 
 PROGRAMS = {
-    "edges": [ports, msrs, registers, fields, controls, lengths, addresses, sheets],
+    "edges": [ports, port_orders, msrs, registers, fields, controls, lengths, addresses, sheets],
     "edges_sessions": [records, queues, entries, events, apic_values, reports, control_registers],
     "edges_setup": [setups, pairs, xcr0],
     "edges_trials": [tried_entries, tried_reports, tried_ports, tried_msrs],

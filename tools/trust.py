@@ -14,12 +14,15 @@ LISTS = ["crates/calls/specs/DemandThree.antt", "crates/calls/specs/Contracts.an
 CAPABILITY_WORDS = ["crates/calls/specs/CapabilityWords.antt"]
 TRIALS = ["crates/trials/specs/Reference.antt"]
 WALKS = ["crates/guest_paging/specs/Laws.antt"]
+EDITS = ["crates/intercepts/specs/TwoHands.antt"]
 # What the statements judge and so do not rest on: setup; over lists the other steps of a session too, and what is said nothing of (the words of an answer).
 SETUP = {"setupOf", "ioBitmapSet", "msrBitmapSet"}
 # Of trials: the trial, and the calls, of which it says that a trial tells them, whatever they do.
 TRIED = {"trialOf", "reportCall", "entryCall", "portCall", "msrCall"}
 # Of page walks: the walk.
 WALKED = {"pageWalkOf"}
+# Of edits: the edits, setup, and how an intercept is read.
+EDITED = {"portCall", "msrCall", "setupCall", "portIntercept", "msrIntercept"}
 STEPS = SETUP | {"queueEvent", "injectInterrupt", "entry", "writeField", "setRegister", "apicValue", "exitReport", "answerWords"}
 # Files that tools/vmcs_names.py and tools/exit_reasons.py write.
 GENERATED = re.compile(r"/Names/|/(Named|VmxExitReason|ExitReasons)\.antt$")
@@ -168,9 +171,9 @@ def crate_row(name):
 
 def main():
     (contracts, functions), lists, words = exports(), statements(LISTS, STEPS), statements(CAPABILITY_WORDS, SETUP)
-    trials, walks = statements(TRIALS, TRIED), statements(WALKS, WALKED)
+    trials, walks, edits = statements(TRIALS, TRIED), statements(WALKS, WALKED), statements(EDITS, EDITED)
     if "--list" in sys.argv:
-        for reading in (contracts, lists, words, trials, walks):
+        for reading in (contracts, lists, words, trials, walks, edits):
             for path, number in sorted(reading.blocks):
                 print(path, reading.modules[path].blocks[number][0].strip())
             print("types:", *sorted("%s::%s" % each for each in reading.types), "\n")
@@ -181,6 +184,7 @@ def main():
     print(words.row("`not-looked-at` and `older-board`"))
     print(trials.row("`six-trials`, beside the calls"))
     print(walks.row("`session-walks`, beside the reading"))
+    print(edits.row("`two-hands`, beside the edits and setup"))
     crates = [line.split(":")[0] for line in open("crates.txt") if re.match(r"[a-z0-9_]+:", line)]
     rows = [crate_row(name) for name in crates if not os.path.exists(f"crates/{name}/src/main.rt")]
     print("\n| crate | functions | code | definitions | proofs |\n|---|---|---|---|---|")

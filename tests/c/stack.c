@@ -55,6 +55,7 @@ int setup_main(int argc, char **argv);
 int report_main(int argc, char **argv);
 int trap_sheet_main(int argc, char **argv);
 int trials_main(int argc, char **argv);
+int two_hands_main(int argc, char **argv);
 int walk_main(int argc, char **argv);
 
 /* How far below the caller's stack pointer the calls changed a byte. */
@@ -69,7 +70,8 @@ static unsigned deepest(const uint8_t *stack)
 
 /* The number of calls that each test makes. */
 static char name[] = "stack", fewest[] = "1000", few[] = "20000", some[] = "100000", many[] = "240000";
-static char *session[] = {name, many}, *setup[] = {name, few}, *report[] = {name, some}, *trap_sheet[] = {name, fewest}, *trials[] = {name, some}, *walk[] = {name, some};
+static char *session[] = {name, many}, *setup[] = {name, few}, *report[] = {name, some}, *trap_sheet[] = {name, fewest}, *trials[] = {name, some}, *two_hands[] = {name, fewest},
+            *walk[] = {name, some};
 
 int main(void)
 {
@@ -78,7 +80,7 @@ int main(void)
     for (i = 0; i < CALLS; i++)
         memset(calls[i].stack, PAINT, SIZE);
     if (leaves_main() || session_main(2, session) || setup_main(2, setup) || report_main(2, report) || trap_sheet_main(2, trap_sheet) || trials_main(2, trials) ||
-        walk_main(2, walk))
+        two_hands_main(2, two_hands) || walk_main(2, walk))
         return 1;
     for (i = 0; i < CALLS; i++) {
         unsigned bytes = deepest(calls[i].stack);

@@ -30,6 +30,28 @@ pub fn ports() {
     port(1, 0xFFFF_FFFF, 1);
 }
 
+// One edit sets the intercept of a port, another clears that of a port, in both orders, where of both ports 0x605 alone is intercepted. Byte 192 of A after each.
+fn both_orders(set: u32, clear: u32) {
+    let mut a = [0u8; FRAME_SIZE];
+    let mut b = [0u8; FRAME_SIZE];
+    a[192] = 0x20;
+    let mut other = a;
+    x86_vcpu::vcpu_set_io_intercept_of_range(&mut a, &mut b, set, 1, 1);
+    x86_vcpu::vcpu_set_io_intercept_of_range(&mut a, &mut b, clear, 1, 0);
+    x86_vcpu::vcpu_set_io_intercept_of_range(&mut other, &mut b, clear, 1, 0);
+    x86_vcpu::vcpu_set_io_intercept_of_range(&mut other, &mut b, set, 1, 1);
+    replay::print_call(
+        b"set_io_intercept_of_range, both orders",
+        &[set as u64, clear as u64],
+    );
+    replay::print_answer(0, &[wide(a[192]), wide(other[192])]);
+}
+
+pub fn orders() {
+    both_orders(0x604, 0x604);
+    both_orders(0x604, 0x605);
+}
+
 // Byte 1,040 has the read of MSR 0xC0000080 in bit 0, byte 3,088 its write.
 fn read(msr: u32, intercept: u8) {
     let mut frame = [0u8; FRAME_SIZE];

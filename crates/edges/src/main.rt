@@ -7,6 +7,7 @@ mod sheets;
 
 fn main() {
     frames::ports();
+    frames::orders();
     frames::msrs();
     fields::registers();
     fields::fields();

@@ -1,7 +1,10 @@
-// What every list of calls comes to is a theorem about the steps of a list (crate `calls`). The functions here tie these steps to the exported functions: each
-// calls one of them and ensures its step, so that a contract that says less than the step is refused. Nothing calls these.
+// What every list of calls comes to is a theorem about the steps of a list (crate `calls`), and what every list of edits of intercepts comes to is one about edits
+// (crate `intercepts`). The functions here tie these steps and edits to the exported functions: each calls one of them and ensures its step, so that a contract that
+// says less than the step is refused. Nothing calls these.
+ghost use mathlib.Core.Path.{_≡_};
 ghost use Rattle.calls.specs.Reference.{queueEvent, injectInterrupt, apicValue, fieldWrite, registerWrite};
 ghost use Rattle.calls.specs.Contracts.{Creates, Does, SetsUp, Enters, Reports};
+ghost use Rattle.intercepts.specs.Edits.{edited, setIoInterceptOfRange, setReadIntercept, setWriteIntercept, setMsrInterceptOfRange};
 
 fn new(bytes: &mut [u8], a: &mut [u8], b: &mut [u8], msr: &mut [u8]) -> u32
     ensures { λ r. ⌜ Creates (now (bytes .entry)) (now (a .entry)) (now (b .entry)) (now (msr .entry)) r (now (bytes .exit)) (now (a .exit)) (now (b .exit)) (now (msr .exit)) ⌝ }
@@ -55,4 +58,35 @@ fn set_register(bytes: &mut [u8], index: u64, value: u64) -> u32
     ensures { λ r. ⌜ Does (now (bytes .entry)) (registerWrite index value) r (now (bytes .exit)) ⌝ }
 {
     x86_vcpu::session::vcpu_set_reg_of_index(bytes, index, value)
+}
+
+fn set_io_intercept_of_range(
+    a: &mut [u8],
+    b: &mut [u8],
+    msr: &[u8],
+    port_base: u32,
+    count: u32,
+    intercept: u8,
+) -> u32
+    ensures { λ r. ⌜ record { refusal = r; frames = record { a = now (a .exit); b = now (b .exit); msr = now (msr .entry) } } ≡ edited (record { a = now (a .entry); b = now (b .entry); msr = now (msr .entry) }) (setIoInterceptOfRange «port_base» count intercept) ⌝ }
+{
+    x86_vcpu::vcpu_set_io_intercept_of_range(a, b, port_base, count, intercept)
+}
+
+fn set_read_intercept(a: &[u8], b: &[u8], frame: &mut [u8], msr: u32, intercept: u8) -> u32
+    ensures { λ r. ⌜ record { refusal = r; frames = record { a = now (a .entry); b = now (b .entry); msr = now (frame .exit) } } ≡ edited (record { a = now (a .entry); b = now (b .entry); msr = now (frame .entry) }) (setReadIntercept msr intercept) ⌝ }
+{
+    x86_vcpu::vcpu_set_read_intercept(frame, msr, intercept)
+}
+
+fn set_write_intercept(a: &[u8], b: &[u8], frame: &mut [u8], msr: u32, intercept: u8) -> u32
+    ensures { λ r. ⌜ record { refusal = r; frames = record { a = now (a .entry); b = now (b .entry); msr = now (frame .exit) } } ≡ edited (record { a = now (a .entry); b = now (b .entry); msr = now (frame .entry) }) (setWriteIntercept msr intercept) ⌝ }
+{
+    x86_vcpu::vcpu_set_write_intercept(frame, msr, intercept)
+}
+
+fn set_msr_intercept_of_range(a: &[u8], b: &[u8], frame: &mut [u8], msr: u32, intercept: u8) -> u32
+    ensures { λ r. ⌜ record { refusal = r; frames = record { a = now (a .entry); b = now (b .entry); msr = now (frame .exit) } } ≡ edited (record { a = now (a .entry); b = now (b .entry); msr = now (frame .entry) }) (setMsrInterceptOfRange msr intercept) ⌝ }
+{
+    x86_vcpu::vcpu_set_msr_intercept_of_range(frame, msr, intercept)
 }

@@ -2,16 +2,16 @@
 -- Assumes nothing.
 use mathlib.Core.Path.{_≡_, refl, sym, ap, _∙_}
 use mathlib.Core.Bool.{Bool, true, false, cond}
-use mathlib.Core.List.{List}
+use mathlib.Core.List.{List, [], _∷_, _++_}
 use mathlib.Core.Logic.{_≢_, dite}
 use Prim.Native.Nat.{ℕ, zero, suc, _+_, _-_, _*_, _/_, _%_, _≤_, _<_}
 use native.Mathlib.Nat.{add-zero, add-suc, sub-self}
 use native.Mathlib.Decide.{decLe, decLt, ℕ-discrete}
 use native.Mathlib.Omega.{arith}
-use lib.Dec.{T}
+use lib.Dec.{T, eqb}
 use lib.ListN.{length, getD, set, take, drop, length-set, length-drop}
-use lib.Seq.{getD-set-same, getD-set-other, set-out, set-set, set-comm, take-all, ext-getD}
-use borrow.Author.Tests.{lt-ltb, le-ltb, le-leb, lt-leb}
+use lib.Seq.{getD-set-same, getD-set-other, set-out, set-set, set-comm, take-all, getD-append-add, ext-getD}
+use borrow.Author.Tests.{lt-ltb, le-ltb, le-leb, lt-leb, eq-eqb, ne-eqb}
 use Rattle.bits.specs.Words.{bit, withBit}
 use Rattle.bits.specs.LittleEndian.{Below}
 use Rattle.bits.proofs.BitLaws.{same-digits, same-bits, bit-of-zero}
@@ -106,6 +106,17 @@ by-range n count m i o =
     (λ b. simp (le-leb n m a, le-ltb m (n + count) (omega arith)) (o (λ _ c. b c))))
     (λ a. simp (lt-leb n m (omega arith)) (o (λ c _. a c)))
 
+as-test : (t : Bool) → cond t true false ≡ t
+as-test true = refl
+as-test false = refl
+
+-- a range of one
+pub range-of-one : (n m : ℕ) → inRange n 1 m ≡ eqb m n
+range-of-one n m =
+    sym
+    (by-range n 1 m (λ a b. eq-eqb m n (omega arith)) (λ o. ne-eqb m n (λ (e : m ≡ n). o (omega arith) (omega arith)))
+    ∙ as-test (inRange n 1 m))
+
 -- after a range of bits is written each bit is what was written if it lies in the range, and else as before
 pub bitAt-setBits : (xs : List ℕ) (n count m : ℕ) (v : Bool) → n + count ≤ 8 * length xs → bitAt (setBits xs n count v) m ≡ cond (inRange n count m) v (bitAt xs m)
 bitAt-setBits xs n count m v f = by-range n count m (λ a b. inside xs n count m v (omega arith) a b) (outside xs n count m v)
@@ -173,6 +184,21 @@ below-setBits xs n (suc count) v b =
     let c = below-setBits xs n count v b in
     below-set ys ((n + count) / 8) _ (withBit-lt 8 ((n + count) % 8) v _ (omega arith) (c ((n + count) / 8))) c
 
+-- of two lists one after the other
+pub bitAt-first : (xs ys : List ℕ) (n : ℕ) → n < 8 * length xs → bitAt (xs ++ ys) n ≡ bitAt xs n
+bitAt-first xs ys n h = ap (bit (n % 8)) (getD-first xs (n / 8) (omega arith))
+  where
+    getD-first : (zs : List ℕ) (i : ℕ) → i < length zs → getD (zs ++ ys) i 0 ≡ getD zs i 0
+    getD-first [] i l = absurd (omega arith)
+    getD-first (z ∷ zs) zero l = refl
+    getD-first (z ∷ zs) (suc i) l = getD-first zs i (omega arith)
+
+pub bitAt-second : (xs ys : List ℕ) (n : ℕ) → bitAt (xs ++ ys) (8 * length xs + n) ≡ bitAt ys n
+bitAt-second xs ys n =
+    let q : (8 * length xs + n) / 8 ≡ length xs + n / 8 = omega arith in
+    let r : (8 * length xs + n) % 8 ≡ n % 8 = omega arith in
+    rw (q, r) (ap (bit (n % 8)) (getD-append-add xs ys (n / 8) 0))
+
 -- lists of bytes with the same bits are equal
 bitAt-byte : (xs : List ℕ) (i k : ℕ) → k < 8 → bitAt xs (8 * i + k) ≡ bit k (getD xs i 0)
 bitAt-byte xs i k h =
@@ -180,9 +206,9 @@ bitAt-byte xs i k h =
     let r : (8 * i + k) % 8 ≡ k = omega arith in
     simp (q, r)
 
-pub same-bytes : (xs ys : List ℕ) → length xs ≡ length ys → Below 256 xs → Below 256 ys → ((m : ℕ) → bitAt xs m ≡ bitAt ys m) → xs ≡ ys
+pub same-bytes : (xs ys : List ℕ) → length xs ≡ length ys → Below 256 xs → Below 256 ys → ((m : ℕ) → m < 8 * length xs → bitAt xs m ≡ bitAt ys m) → xs ≡ ys
 same-bytes xs ys l bx by e =
-    ext-getD 0 xs ys l (λ i _. same-digits 8 _ _ (bx i) (by i) (λ k h. sym (bitAt-byte xs i k h) ∙ e (8 * i + k) ∙ bitAt-byte ys i k h))
+    ext-getD 0 xs ys l (λ i g. same-digits 8 _ _ (bx i) (by i) (λ k h. sym (bitAt-byte xs i k h) ∙ e (8 * i + k) (omega arith) ∙ bitAt-byte ys i k h))
 
 pub bit-fullByte : (v : Bool) (k : ℕ) → k < 8 → bit k (fullByte v) ≡ v
 unfolding fullByte
@@ -198,7 +224,7 @@ one-store : (xs : List ℕ) (i : ℕ) (v : Bool) → Below 256 xs → i < length
 one-store xs i v b f =
     same-bytes _ _ (length-setBits xs (8 * i) 8 v ∙ sym (length-set xs i (fullByte v))) (below-setBits xs (8 * i) 8 v b)
     (below-set xs i (fullByte v) (fullByte-lt v) b)
-    (λ m. bitAt-setBits xs (8 * i) 8 m v (omega arith)
+    (λ m _. bitAt-setBits xs (8 * i) 8 m v (omega arith)
     ∙ sym (by-range (8 * i) 8 m
     (λ h k. let e : m / 8 ≡ i = omega arith in
     ap (λ (q : ℕ). bit (m % 8) (getD (set xs i (fullByte v)) q 0)) e

@@ -1,5 +1,5 @@
--- Laws of MSR edits: what each number means, what the intercept of each access to each MSR is after an accepted edit, and that edits with no
--- access to an MSR in common commute. Assumes nothing.
+-- Laws of MSR edits: what each number means, what the intercept of each access to each MSR is after an accepted edit, that edits with no access to an MSR in
+-- common commute, and which bit of the frame is an access's. Assumes nothing.
 use mathlib.Core.Path.{_≡_, refl, ap, _∙_}
 use mathlib.Core.Bool.{Bool, true, false, cond, _&&_, _||_}
 use mathlib.Core.List.{List, [], _∷_, _++_}
@@ -14,7 +14,7 @@ use Rattle.structs.specs.declared.Access.{Access}
 use Rattle.structs.specs.declared.Access.the-variants.{Read, Write}
 use Rattle.structs.specs.Bitmap.{setBits, inRange}
 use Rattle.structs.specs.Frames.{quarterOf, msrIndex, msrIntercept, sameAccess, among, covered, setMsrs, msrRefusal, editMsrs}
-use Rattle.structs.specs.Numbers.{Low, High, MsrNumbers}
+use Rattle.structs.specs.Numbers.{Low, High, IsMsr, MsrNumbers}
 use Rattle.structs.proofs.BitmapLaws.{length-setBits, inside, outside, in-range, by-range, setBits-comm, guarded-comm}
 
 -- ---- the numbers
@@ -61,7 +61,7 @@ module _ (len base count : ℕ) where
 -- ---- where the bits of a range lie
 
 -- reads are 0 and writes 1, so that the quarter of an access is linear in it
-abbrev number : Access → ℕ
+abbrev pub number : Access → ℕ
 number Read = 0
 number Write = 1
 
@@ -154,10 +154,47 @@ module _ (n k base count m i j : ℕ) (p : Place n base count i) (q : Place k m 
       let c = in-block (p .half * 0x6_0000) (q .half * 0x6_0000) (p .rest) (q .rest) count (ap (λ (t : ℕ). t * 0x6_0000) (e .1)) (b .1) (b .2) in
       (e .0, rw (p .msr, q .msr) (c .0), rw (p .msr, q .msr) (c .1))
 
+-- ---- the bit of an access to an MSR
+
+pub low-index : (x : Access) (m : ℕ) → Low m 1 → msrIndex x m ≡ number x * 0x4000 + m
+low-index x m l = omega (arith, quarter-low x m (omega arith))
+
+pub high-index : (x : Access) (m : ℕ) → High m 1 → msrIndex x m ≡ number x * 0x4000 + 0x2000 + (m - 0xC000_0000)
+high-index x m h = omega (arith, quarter-high x m (omega arith))
+
+-- it lies within the frame
+pub index-lt : (x : Access) (m : ℕ) → IsMsr m → msrIndex x m < 0x8000
+index-lt x m r = omega (arith, msr-fits x m 1 r)
+
+-- an access to an MSR that has bit n
+pub record MsrOf (n : ℕ) : Type 0 where
+  pub access : Access
+  pub msr : ℕ
+  pub real : IsMsr msr
+  pub index : msrIndex access msr ≡ n
+
+-- each bit of the frame is that of an access
+pub msr-of-bit : (n : ℕ) → n < 0x8000 → MsrOf n
+msr-of-bit n h =
+    dite (decLt n 0x4000) (λ l. of-access Read n (omega arith) (omega arith)) (λ g. of-access Write (n - 0x4000) (omega arith) (omega arith))
+  where
+    of-access : (x : Access) (k : ℕ) → k < 0x4000 → number x * 0x4000 + k ≡ n → MsrOf n
+    of-access x k l e =
+        dite (decLt k 0x2000)
+        (λ low. record { access = x; msr = k; real = inl (omega arith); index = low-index x k (omega arith) ∙ e })
+        (λ high. let m = k - 0x2000 + 0xC000_0000 in
+        record { access = x; msr = m; real = inr (omega arith); index = high-index x m (omega arith) ∙ omega arith })
+
+-- and of one alone
+pub one-msr : (x y : Access) (m n : ℕ) → IsMsr m → IsMsr n → msrIndex x m ≡ msrIndex y n → (x ≡ y) × (m ≡ n)
+one-msr x y m n r s e =
+    let b = msr-of (number x) (number y) m 1 n (msrIndex x m) (msrIndex y n) (place-of x m 1 (omega arith) r) (place-of y n 1 (omega arith) s) (omega arith) (omega arith) in
+    (same-access x y (b .0), omega arith)
+
 -- ---- what an edit leaves
 
 -- the intercept of y to m after one access x to a range is written
-one-access : (xs : List ℕ) (x y : Access) (base count m : ℕ) (v : Bool) → length xs ≡ 4096 → Low base count ⊎ High base count → Low m 1 ⊎ High m 1
+one-access : (xs : List ℕ) (x y : Access) (base count m : ℕ) (v : Bool) → length xs ≡ 4096 → Low base count ⊎ High base count → IsMsr m
     → msrIntercept (setBits xs (msrIndex x base) count v) y m ≡ cond (sameAccess x y && inRange base count m) v (msrIntercept xs y m)
 one-access xs x y base count m v len r s =
     dite (ℕ-discrete (number x) (number y))
@@ -187,7 +224,7 @@ merge false true false v w = refl
 merge false false true v w = refl
 merge false false false v w = refl
 
-setMsrs-at : (xs : List ℕ) (base count : ℕ) (accesses : List Access) (v : Bool) (y : Access) (m : ℕ) → length xs ≡ 4096 → Low base count ⊎ High base count → Low m 1 ⊎ High m 1
+setMsrs-at : (xs : List ℕ) (base count : ℕ) (accesses : List Access) (v : Bool) (y : Access) (m : ℕ) → length xs ≡ 4096 → Low base count ⊎ High base count → IsMsr m
     → msrIntercept (setMsrs xs base count accesses v) y m ≡ cond (among accesses y && inRange base count m) v (msrIntercept xs y m)
 unfolding setMsrs
 setMsrs-at xs base count [] v y m len r s = refl
@@ -217,7 +254,7 @@ module _ (xs : List ℕ) (base count : ℕ) (accesses : List Access) (v : Bool) 
       go false = refl
 
   -- after an accepted edit the intercept of an access to an MSR is what was asked if it is one of those edited, and else as before
-  pub msr-edited : editMsrs xs base count accesses v .refusal ≡ 0 → (y : Access) (m : ℕ) → Low m 1 ⊎ High m 1
+  pub msr-edited : editMsrs xs base count accesses v .refusal ≡ 0 → (y : Access) (m : ℕ) → IsMsr m
       → msrIntercept (editMsrs xs base count accesses v .frame) y m ≡ cond (covered base count accesses y m) v (msrIntercept xs y m)
   unfolding editMsrs
   msr-edited e y m s = let n = numbers (length xs) base count .is-0 .0 e in rw e (setMsrs-at xs base count accesses v y m (n .0) (n .1) s)
@@ -252,16 +289,20 @@ and-intro : (x y : Bool) → T x → T y → T (x && y)
 and-intro true y s t = t
 and-intro false y s t = s
 
+-- each MSR of an accepted range
+each-msr : (base count m : ℕ) → Low base count ⊎ High base count → base ≤ m → m < base + count → IsMsr m
+each-msr base count m r h l = ⊎-elim (λ (low : Low base count). inl (omega arith)) (λ (high : High base count). inr (omega arith)) r
+
 -- if two edits share no access to an MSR, they share no bit
 bits-apart : (f c : ℕ) (l : List Access) (g d : ℕ) (k : List Access) → Low f c ⊎ High f c → Low g d ⊎ High g d
-    → ((x : Access) (m : ℕ) → T (covered f c l x m) → T (covered g d k x m) → ⊥)
+    → ((x : Access) (m : ℕ) → IsMsr m → T (covered f c l x m) → T (covered g d k x m) → ⊥)
     → (x y : Access) → T (among l x) → T (among k y)
     → (t : ℕ) → msrIndex x f ≤ t → t < msrIndex x f + c → msrIndex y g ≤ t → t < msrIndex y g + d → ⊥
 bits-apart f c l g d k r s apart x y a b t h i j o =
     let m = f + (t - msrIndex x f) in
     let p = msr-at _ f c (msrIndex x f) t (place-of x f c (omega arith) r) h i in
     let e = msr-of (number y) (number x) g d m (msrIndex y g) t (place-of y g d (omega arith) s) p j o in
-    apart x m
+    apart x m (each-msr f c m r (omega arith) (omega arith))
     (and-intro (among l x) (inRange f c m) a (in-range f c m (omega arith) (omega arith)))
     (and-intro (among k x) (inRange g d m) (rw (same-access y x (e .0)) at b) (in-range g d m (e .1) (e .2)))
 
@@ -285,7 +326,7 @@ module _ (f c g d : ℕ) (v u : Bool) where
 
 -- two edits of the same frame, accepted or not
 pub msrs-commute : (xs : List ℕ) (f c : ℕ) (l : List Access) (g d : ℕ) (k : List Access) (v u : Bool)
-    → ((x : Access) (m : ℕ) → T (covered f c l x m) → T (covered g d k x m) → ⊥)
+    → ((x : Access) (m : ℕ) → IsMsr m → T (covered f c l x m) → T (covered g d k x m) → ⊥)
     → editMsrs (editMsrs xs f c l v .frame) g d k u .frame ≡ editMsrs (editMsrs xs g d k u .frame) f c l v .frame
 unfolding editMsrs
 msrs-commute xs f c l g d k v u apart =

@@ -1,5 +1,5 @@
--- Laws of port edits: what each number means, what each port's intercept is after an accepted edit, and that edits with no port in common commute.
--- An edit of ports and one of MSRs are of different frames: neither definition mentions the other's, so there is no law to state. Assumes nothing.
+-- Laws of port edits: what each number means, what each port's intercept is after an accepted edit, that edits with no port in common commute, and which bit of A
+-- or B is a port's. Edits of ports and of MSRs in one list: crate `intercepts`. Assumes nothing.
 use mathlib.Core.Path.{_≡_, refl, sym, _∙_}
 use mathlib.Core.Bool.{Bool, true, false, cond}
 use mathlib.Core.List.{List}
@@ -7,12 +7,12 @@ use mathlib.Core.Logic.{_≢_, dite, _⊎_, inl, inr, ⊎-elim, _↔_}
 use Prim.Native.Nat.{ℕ, zero, suc, _+_, _-_, _≤_, _<_, min}
 use native.Mathlib.Decide.{decLt, ℕ-discrete}
 use native.Mathlib.Omega.{arith}
-use lib.Dec.{T, eqb}
+use lib.Dec.{T, eqb, eqb→eq}
 use lib.ListN.{length}
 use borrow.Author.Tests.{lt-ltb, le-ltb, eq-eqb, ne-eqb}
-use Rattle.structs.specs.Bitmap.{setBit, setBits, inRange}
+use Rattle.structs.specs.Bitmap.{bitAt, setBit, setBits, inRange}
 use Rattle.structs.specs.Frames.{portIndex, portIntercept, IOBitmap, setPort, setPorts, portRefusal, framesOf, editPorts}
-use Rattle.structs.specs.Numbers.{PortNumbers}
+use Rattle.structs.specs.Numbers.{PortNumbers, IsPort}
 use Rattle.structs.proofs.BitmapLaws.{length-setBits, inside, outside, by-range, in-range, setBits-comm, next-bit, guarded-comm}
 
 -- ---- the numbers
@@ -174,7 +174,7 @@ setPorts-comm io f c g d v u apart =
     (setBits-comm (io .b) _ _ _ _ v u (λ k h i j l. apart (k + 0x8000) (omega arith) (omega arith) (omega arith) (omega arith))))
 
 -- two edits of the same frames, accepted or not
-pub ports-commute : (a b : List ℕ) (f c g d : ℕ) (v u : Bool) → ((port : ℕ) → T (inRange f c port) → T (inRange g d port) → ⊥)
+pub ports-commute : (a b : List ℕ) (f c g d : ℕ) (v u : Bool) → ((port : ℕ) → IsPort port → T (inRange f c port) → T (inRange g d port) → ⊥)
     → framesOf (editPorts (editPorts a b f c v .a) (editPorts a b f c v .b) g d u) ≡ framesOf (editPorts (editPorts a b g d u .a) (editPorts a b g d u .b) f c v)
 unfolding editPorts
 ports-commute a b f c g d v u apart =
@@ -183,4 +183,19 @@ ports-commute a b f c g d v u apart =
     let y = length-after io g d u in
     rw (x .0, x .1, y .0, y .1)
     (guarded-comm (λ z. setPorts z f c v) (λ z. setPorts z g d u) io (accepted io f c) (accepted io g d)
-    (λ _ _. setPorts-comm io f c g d v u (λ p h i j k. apart p (in-range f c p h i) (in-range g d p j k))))
+    (λ s _. let n = numbers (length a) (length b) f c .is-0 .0 (eqb→eq _ 0 s) in
+    setPorts-comm io f c g d v u
+    (λ p h i j k. let last : f + c - 1 ≤ 65535 = n .2 (omega arith) in
+    apart p (omega arith) (in-range f c p h i) (in-range g d p j k))))
+
+-- ---- the bits of ports
+
+pub port-in-a : (a b : List ℕ) (n : ℕ) → n < 0x8000 → portIntercept a b n ≡ bitAt a n
+unfolding portIntercept portIndex
+port-in-a a b n l = rw (lt-ltb n 0x8000 l)
+
+pub port-in-b : (a b : List ℕ) (n : ℕ) → portIntercept a b (0x8000 + n) ≡ bitAt b n
+unfolding portIntercept portIndex
+port-in-b a b n =
+    let e : 0x8000 + n - 0x8000 ≡ n = omega arith in
+    rw (le-ltb (0x8000 + n) 0x8000 (omega arith), e)

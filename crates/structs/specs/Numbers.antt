@@ -16,6 +16,13 @@ Low base count = base + count ≤ 0x2000
 abbrev pub High : ℕ → ℕ → Type 0
 High base count = (0xC000_0000 ≤ base) × (base + count ≤ 0xC000_2000)
 
+-- what has a bit in a frame: a port, and an MSR of one of the two ranges
+abbrev pub IsPort : ℕ → Type 0
+IsPort n = n ≤ 0xFFFF
+
+abbrev pub IsMsr : ℕ → Type 0
+IsMsr n = Low n 1 ⊎ High n 1
+
 -- n is the number of an edit of count MSRs from base on, in a frame of this length
 pub record MsrNumbers (lengthOf base count n : ℕ) : Type 0 where
   pub is-2 : (n ≡ 2) ↔ (lengthOf ≢ 4096)

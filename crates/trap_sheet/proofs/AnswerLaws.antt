@@ -10,10 +10,11 @@ use borrow.Author.Tests.{lt-ltb, le-ltb, eq-eqb, ne-eqb}
 use lib.ListN.{length, drop, length-append, length-drop}
 use lib.Seq.{drop-drop, take-at, drop-at}
 use Rattle.structs.specs.Frames.{portIntercept, msrIntercept}
+use Rattle.structs.specs.Numbers.{IsPort, IsMsr}
 use Rattle.structs.specs.declared.Access.the-variants.{Read, Write}
 use Rattle.trap_sheet.specs.Runs.{Run}
 use Rattle.trap_sheet.specs.Sheet.{Kind, ports, msrs, portKind, readKind, writeKind, runsIn, kindTotal, kindRuns, totalLineOf, runLine, runLinesOf, sheetOf, trapSheet}
-use Rattle.trap_sheet.specs.Reference.{holding, Ascending, IsPort, IsMsr, FrameRuns, RunText, TotalText, lineAt, RunsAt, FrameLengths, Accepted, Answers}
+use Rattle.trap_sheet.specs.Reference.{holding, Ascending, FrameRuns, RunText, TotalText, lineAt, RunsAt, FrameLengths, Accepted, Answers}
 use Rattle.trap_sheet.proofs.RunLaws.{ends, count-most}
 use Rattle.trap_sheet.proofs.RangeLaws.{totals, ports-are-runs, msrs-are-runs, only, msr?}
 use Rattle.trap_sheet.proofs.LineLaws.{run-length, run-text, total-length, total-text, lines-length, sheet-lines, sheet-length, sheet-most}

@@ -9,10 +9,11 @@ use native.Mathlib.Decide.{decLe, decLt}
 use native.Mathlib.Omega.{arith}
 use borrow.Author.Tests.{le-leb, lt-leb}
 use Rattle.bits.specs.Words.{flag}
+use Rattle.structs.specs.Numbers.{IsPort, IsMsr}
 use Rattle.trap_sheet.proofs.RunLaws.{weaker, ascending, none-below, none-past, exactly-one, runs-outside, held, ends, counted}
 use Rattle.trap_sheet.specs.Runs.{Run, runsOf}
 use Rattle.trap_sheet.specs.Sheet.{Range, ports, msrs, totalIn, runsIn}
-use Rattle.trap_sheet.specs.Reference.{holding, Ascending, IsRuns, IsPort, IsMsr, itemsOf}
+use Rattle.trap_sheet.specs.Reference.{holding, Ascending, IsRuns, itemsOf}
 
 -- ---- the runs of several ranges
 

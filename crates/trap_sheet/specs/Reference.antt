@@ -5,12 +5,11 @@ use Prim.Native.Nat.{ℕ, _+_, _-_, _*_, _≤_, _<_}
 use Prim.Native.Char.{code}
 use mathlib.Core.Path.{_≡_}
 use mathlib.Core.Bool.{Bool, true, false, cond}
-use mathlib.Core.Logic.{_⊎_}
 use mathlib.Core.List.{List, [], _∷_}
 use lib.Dec.{leb}
 use lib.ListN.{length, take, drop, replicate}
 use Rattle.structs.specs.Frames.{portIntercept, msrIntercept}
-use Rattle.structs.specs.Numbers.{Low, High}
+use Rattle.structs.specs.Numbers.{IsPort, IsMsr}
 use Rattle.structs.specs.declared.Access.the-variants.{Read, Write}
 use Rattle.text.specs.Ascii.{ascii}
 use Rattle.text.specs.Hex.{hexNumber}
@@ -38,13 +37,6 @@ pub record IsRuns (Item : ℕ → Type 0) (trapped : ℕ → Bool) (rs : List Ru
   pub clear : (n : ℕ) → Item n → trapped n ≡ false → holding n rs ≡ 0
   pub outside : (n : ℕ) → (Item n → ⊥) → holding n rs ≡ 0
   pub ascending : Ascending 0 rs
-
--- the items: ports, and MSRs of the low and of the high range
-abbrev pub IsPort : ℕ → Type 0
-IsPort n = n ≤ 0xFFFF
-
-abbrev pub IsMsr : ℕ → Type 0
-IsMsr n = Low n 1 ⊎ High n 1
 
 -- p, r and w are the runs of ports, of reads and of writes of MSRs that the frames trap
 pub record FrameRuns (a b msr : List ℕ) (p r w : List Run) : Type 0 where

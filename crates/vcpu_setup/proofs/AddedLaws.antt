@@ -1,18 +1,18 @@
 -- Setup adds exactly its intercepts to frames of 4,096 bytes. Assumes nothing.
-use Prim.Native.Nat.{ℕ, _+_, _≤_, _<_}
+use Prim.Native.Nat.{ℕ, _+_, _≤_}
 use native.Mathlib.Omega.{arith}
-use mathlib.Core.Path.{_≡_, refl, sym, ap, _∙_}
-use mathlib.Core.Logic.{_⊎_, inl}
+use mathlib.Core.Path.{_≡_, refl, ap, _∙_}
+use mathlib.Core.Logic.{inl}
 use mathlib.Core.Bool.{Bool, true, false, cond, _&&_, _||_}
 use mathlib.Core.List.{List, [], _∷_}
-use lib.Dec.{eqb, leb, ltb}
+use lib.Dec.{eqb}
 use lib.ListN.{length}
-use borrow.Author.Tests.{eqb-true, eqb-false, leb-true, le-leb, lt-ltb, le-ltb}
 use Rattle.structs.specs.declared.Access.{Access}
 use Rattle.structs.specs.declared.Access.the-variants.{Read, Write}
 use Rattle.structs.specs.Bitmap.{inRange}
 use Rattle.structs.specs.Frames.{portIntercept, msrIntercept, editPorts, editMsrs, covered, among}
-use Rattle.structs.specs.Numbers.{PortNumbers, MsrNumbers, Low, High}
+use Rattle.structs.specs.Numbers.{PortNumbers, MsrNumbers, IsMsr}
+use Rattle.structs.proofs.BitmapLaws.{range-of-one}
 use Rattle.structs.proofs.PortLaws.{port-numbers, port-length-a, port-length-b, port-edited}
 use Rattle.structs.proofs.MsrLaws.{msr-numbers, msr-length, msr-edited}
 use Rattle.vcpu_setup.specs.Bitmaps.{QEMU_EXIT_PORT, IA32_UMWAIT_CONTROL, X2APIC_MSRS, X2APIC_COUNT, bothAccesses, ioBitmapSet, msrBitmapSet}
@@ -22,22 +22,6 @@ use Rattle.vcpu_setup.specs.Added.{Added}
 adds : (t x : Bool) → cond t true x ≡ (t || x)
 adds true x = refl
 adds false x = refl
-
--- a range of one
-only : (n m : ℕ) → inRange n 1 m ≡ eqb m n
-only n m = go (eqb m n) refl
-  where
-    above : (x : Bool) → leb n m ≡ x → (m ≡ n → ⊥) → (x && ltb m (n + 1)) ≡ false
-    above true e other =
-        let h : n ≤ m = leb-true n m e in
-        le-ltb m (n + 1) (omega arith)
-    above false e other = refl
-
-    go : (z : Bool) → eqb m n ≡ z → inRange n 1 m ≡ z
-    go true e =
-        let h : m ≡ n = eqb-true m n e in
-        rw (le-leb n m (omega arith), lt-ltb m (n + 1) (omega arith))
-    go false e = above (leb n m) refl (eqb-false m n e)
 
 -- both accesses are among both
 every : (x : Access) → among bothAccesses x ≡ true
@@ -71,21 +55,21 @@ module _ (a b frame : List ℕ) (la : length a ≡ 4096) (lb : length b ≡ 4096
         length-msr = msr-length first X2APIC_MSRS X2APIC_COUNT bothAccesses true ∙ first-length;
         ports = λ port.
             port-edited a b QEMU_EXIT_PORT 1 true port-ok port ∙ adds (inRange QEMU_EXIT_PORT 1 port) (portIntercept a b port)
-            ∙ ap (λ (t : Bool). t || portIntercept a b port) (only QEMU_EXIT_PORT port);
+            ∙ ap (λ (t : Bool). t || portIntercept a b port) (range-of-one QEMU_EXIT_PORT port);
         msrs = both;
       }
     where
-      at : (ys : List ℕ) (base count : ℕ) → length ys ≡ 4096 → base + count ≤ 0x2000 → (x : Access) (m : ℕ) → Low m 1 ⊎ High m 1
+      at : (ys : List ℕ) (base count : ℕ) → length ys ≡ 4096 → base + count ≤ 0x2000 → (x : Access) (m : ℕ) → IsMsr m
           → msrIntercept (editMsrs ys base count bothAccesses true .frame) x m ≡ (inRange base count m || msrIntercept ys x m)
       at ys base count l h x m s =
           msr-edited ys base count bothAccesses true (msr-numbers ys base count bothAccesses true .is-0 .1 (l, inl h)) x m s
           ∙ adds (covered base count bothAccesses x m) (msrIntercept ys x m)
           ∙ ap (λ (t : Bool). (t && inRange base count m) || msrIntercept ys x m) (every x)
 
-      both : (x : Access) (m : ℕ) → Low m 1 ⊎ High m 1
+      both : (x : Access) (m : ℕ) → IsMsr m
           → msrIntercept (editMsrs first X2APIC_MSRS X2APIC_COUNT bothAccesses true .frame) x m
           ≡ (inRange X2APIC_MSRS X2APIC_COUNT m || (eqb m IA32_UMWAIT_CONTROL || msrIntercept frame x m))
       both x m s =
           at first X2APIC_MSRS X2APIC_COUNT first-length (omega arith) x m s
           ∙ ap (λ (t : Bool). inRange X2APIC_MSRS X2APIC_COUNT m || t) (at frame IA32_UMWAIT_CONTROL 1 lf (omega arith) x m s)
-          ∙ ap (λ (t : Bool). inRange X2APIC_MSRS X2APIC_COUNT m || (t || msrIntercept frame x m)) (only IA32_UMWAIT_CONTROL m)
+          ∙ ap (λ (t : Bool). inRange X2APIC_MSRS X2APIC_COUNT m || (t || msrIntercept frame x m)) (range-of-one IA32_UMWAIT_CONTROL m)

@@ -13,6 +13,7 @@ use Rattle.bits.specs.Words.{flag}
 use Rattle.bits.proofs.BitLaws.{bit-of-zero}
 use Rattle.structs.specs.Bitmap.{bitAt, inRange}
 use Rattle.structs.specs.Frames.{inA, portIndex, portIntercept, msrIndex, msrIntercept}
+use Rattle.structs.specs.Numbers.{IsPort, IsMsr}
 use Rattle.structs.specs.declared.Access.{Access}
 use Rattle.structs.specs.declared.Access.the-variants.{Read, Write}
 use Rattle.vcpu_setup.specs.Bitmaps.{QEMU_EXIT_PORT, IA32_UMWAIT_CONTROL, X2APIC_MSRS, X2APIC_COUNT, ioBitmapSet, msrBitmapSet}
@@ -22,7 +23,7 @@ use Rattle.text.specs.Hex.{hexDigit}
 use Rattle.text.specs.Decimal.{decimalColumn}
 use Rattle.trap_sheet.specs.Runs.{Run}
 use Rattle.trap_sheet.specs.Sheet.{ports, msrs, runsIn, sheetOf}
-use Rattle.trap_sheet.specs.Reference.{holding, IsPort, IsMsr, itemsOf}
+use Rattle.trap_sheet.specs.Reference.{holding, itemsOf}
 use Rattle.trap_sheet.proofs.RangeLaws.{totals, are-runs, ports-are-runs, msrs-are-runs, only, msr?}
 use Rattle.worked.specs.TrapSheet.{zeros, setupSheet, setupText}
 

@@ -1,0 +1,105 @@
+-- Each of the 98,304 bits of the frames is that of exactly one item. Assumes nothing.
+use Prim.Native.Nat.{ℕ, _+_, _-_, _*_, _<_, _≤_}
+use native.Mathlib.Decide.{decLt}
+use native.Mathlib.Omega.{arith}
+use mathlib.Core.Path.{_≡_, refl, sym, ap, ap₂, _∙_, subst}
+use mathlib.Core.Logic.{inl, inr, dite}
+use mathlib.Core.Bool.{Bool}
+use mathlib.Core.List.{List, _++_}
+use lib.ListN.{length, length-append}
+use borrow.Author.Tests.{lt-ltb, le-ltb}
+use Rattle.structs.specs.declared.Access.{Access}
+use Rattle.structs.specs.declared.Access.the-variants.{Read, Write}
+use Rattle.structs.specs.Bitmap.{bitAt}
+use Rattle.structs.specs.Frames.{portIntercept, msrIndex, msrIntercept}
+use Rattle.structs.specs.Numbers.{IsPort, IsMsr}
+use Rattle.structs.proofs.BitmapLaws as BitmapLaws
+use Rattle.structs.proofs.BitmapLaws.{bitAt-first, bitAt-second}
+use Rattle.structs.proofs.PortLaws.{port-in-a, port-in-b}
+use Rattle.structs.proofs.MsrLaws.{number, low-index, high-index, index-lt, msr-of-bit, one-msr}
+use Rattle.intercepts.specs.Edits.{Frames, bytesOf, lengthsOf, Item, port, access, Real, trapped}
+use Rattle.intercepts.specs.TwoHands.{Whole, Bytes, place, HasItem}
+
+-- ---- the place of an item
+
+place-as : (x : Access) (m : ℕ) → IsMsr m → place (access x m) ≡ 0x1_0000 + msrIndex x m
+place-as Read m (inl l) = rw (lt-ltb m 0x2000 (omega arith)) (omega (arith, low-index Read m l))
+place-as Read m (inr h) = rw (le-ltb m 0x2000 (omega arith)) (omega (arith, high-index Read m h))
+place-as Write m (inl l) = rw (lt-ltb m 0x2000 (omega arith)) (omega (arith, low-index Write m l))
+place-as Write m (inr h) = rw (le-ltb m 0x2000 (omega arith)) (omega (arith, high-index Write m h))
+
+pub in-bytes : (i : Item) → Real i → place i < 98304
+in-bytes (port p) r = omega arith
+in-bytes (access x m) r = omega (arith, place-as x m r, index-lt x m r)
+
+pub every-bit : (n : ℕ) → n < 98304 → HasItem n
+every-bit n h =
+    dite (decLt n 0x1_0000)
+    (λ l. record { item = port n; real = omega arith; at = refl })
+    (λ g. let o = msr-of-bit (n - 0x1_0000) (omega arith) in
+    record { item = access (o .access) (o .msr); real = o .real; at = omega (arith, place-as (o .access) (o .msr) (o .real), o .index) })
+
+pub one-item : (i j : Item) → Real i → Real j → place i ≡ place j → i ≡ j
+one-item (port p) (port q) r s e = ap port e
+one-item (port p) (access y n) r s e = absurd (omega (arith, place-as y n s))
+one-item (access x m) (port q) r s e = absurd (omega (arith, place-as x m r))
+one-item (access x m) (access y n) r s e =
+    let o = one-msr x y m n r s (omega (arith, place-as x m r, place-as y n s)) in
+    ap₂ access (o .0) (o .1)
+
+-- ---- its bit
+
+module _ (f : Frames) (w : Whole f) where
+  in-a : length (f .a) ≡ 4096
+  in-a = ap (λ (l : ℕ × ℕ × ℕ). l .0) w
+
+  in-b : length (f .b) ≡ 4096
+  in-b = ap (λ (l : ℕ × ℕ × ℕ). l .1) w
+
+  in-msr : length (f .msr) ≡ 4096
+  in-msr = ap (λ (l : ℕ × ℕ × ℕ). l .2) w
+
+  bit-a : (n : ℕ) → n < 0x8000 → bitAt (bytesOf f) n ≡ bitAt (f .a) n
+  bit-a n l = bitAt-first (f .a) _ n (omega (arith, in-a))
+
+  rest : (n : ℕ) → bitAt (bytesOf f) (0x8000 + n) ≡ bitAt (f .b ++ f .msr) n
+  rest n =
+      let e : 0x8000 + n ≡ 8 * length (f .a) + n = omega (arith, in-a) in
+      ap (bitAt (bytesOf f)) e ∙ bitAt-second (f .a) _ n
+
+  bit-b : (n : ℕ) → n < 0x8000 → bitAt (bytesOf f) (0x8000 + n) ≡ bitAt (f .b) n
+  bit-b n l = rest n ∙ bitAt-first (f .b) (f .msr) n (omega (arith, in-b))
+
+  bit-msr : (n : ℕ) → bitAt (bytesOf f) (0x1_0000 + n) ≡ bitAt (f .msr) n
+  bit-msr n =
+      let e : 0x1_0000 + n ≡ 0x8000 + (0x8000 + n) = omega arith in
+      let g : 0x8000 + n ≡ 8 * length (f .b) + n = omega (arith, in-b) in
+      ap (bitAt (bytesOf f)) e ∙ rest (0x8000 + n) ∙ ap (bitAt (f .b ++ f .msr)) g ∙ bitAt-second (f .b) (f .msr) n
+
+  pub bytes : length (bytesOf f) ≡ 12288
+  bytes = rw (length-append, length-append) (omega (arith, in-a, in-b, in-msr))
+
+  pub bit : (i : Item) → Real i → trapped f i ≡ bitAt (bytesOf f) (place i)
+  bit (port p) r =
+      dite (decLt p 0x8000)
+      (λ l. port-in-a (f .a) (f .b) p l ∙ sym (bit-a p l))
+      (λ g. let e : p ≡ 0x8000 + (p - 0x8000) = omega arith in
+      ap (portIntercept (f .a) (f .b)) e ∙ port-in-b (f .a) (f .b) (p - 0x8000) ∙ sym (bit-b (p - 0x8000) (omega arith)) ∙ ap (bitAt (bytesOf f)) (sym e))
+  bit (access x m) r = sym (ap (bitAt (bytesOf f)) (place-as x m r) ∙ bit-msr (msrIndex x m))
+
+-- ---- frames that agree on all items
+
+pub same-bytes : (f g : Frames) → Whole f → Whole g → Bytes f → Bytes g → ((i : Item) → Real i → trapped f i ≡ trapped g i) → f ≡ g
+same-bytes f g w u x y e =
+    three
+    (BitmapLaws.same-bytes (f .a) (g .a) (in-a f w ∙ sym (in-a g u)) (x .0) (y .0)
+    (λ n h. let l : n < 0x8000 = omega (arith, in-a f w) in
+    sym (port-in-a (f .a) (f .b) n l) ∙ e (port n) (omega arith) ∙ port-in-a (g .a) (g .b) n l))
+    (BitmapLaws.same-bytes (f .b) (g .b) (in-b f w ∙ sym (in-b g u)) (x .1) (y .1)
+    (λ n h. sym (port-in-b (f .a) (f .b) n) ∙ e (port (0x8000 + n)) (omega (arith, in-b f w)) ∙ port-in-b (g .a) (g .b) n))
+    (BitmapLaws.same-bytes (f .msr) (g .msr) (in-msr f w ∙ sym (in-msr g u)) (x .2) (y .2)
+    (λ n h. let o = msr-of-bit n (omega (arith, in-msr f w)) in
+    ap (bitAt (f .msr)) (sym (o .index)) ∙ e (access (o .access) (o .msr)) (o .real) ∙ ap (bitAt (g .msr)) (o .index)))
+  where
+    three : f .a ≡ g .a → f .b ≡ g .b → f .msr ≡ g .msr → f ≡ g
+    three p q r i = record { a = p i; b = q i; msr = r i }

@@ -1,0 +1,5 @@
+pub mod EditLaws
+pub mod Lists
+pub mod Bits
+pub mod SetUp
+pub mod TwoHands

@@ -4,6 +4,8 @@
 ghost use mathlib.Core.Path.{_≡_};
 ghost use Rattle.calls.specs.Reference.{queueEvent, injectInterrupt, apicValue, fieldWrite, registerWrite};
 ghost use Rattle.calls.specs.Contracts.{Creates, Does, SetsUp, Enters, Reports};
+ghost use Rattle.call_specs.specs.Records.{framesCall};
+ghost use Rattle.call_specs.specs.SetupCall.{setupCall};
 ghost use Rattle.intercepts.specs.Edits.{edited, setIoInterceptOfRange, setReadIntercept, setWriteIntercept, setMsrInterceptOfRange};
 
 fn new(bytes: &mut [u8], a: &mut [u8], b: &mut [u8], msr: &mut [u8]) -> u32
@@ -58,6 +60,13 @@ fn set_register(bytes: &mut [u8], index: u64, value: u64) -> u32
     ensures { λ r. ⌜ Does (now (bytes .entry)) (registerWrite index value) r (now (bytes .exit)) ⌝ }
 {
     x86_vcpu::session::vcpu_set_reg_of_index(bytes, index, value)
+}
+
+// The frames too, which edits follow.
+fn set_up_frames(bytes: &mut [u8], block: &[u8], a: &mut [u8], b: &mut [u8], msr: &mut [u8]) -> u32
+    ensures { λ r. ⌜ framesCall r (now (bytes .exit)) (now (a .exit)) (now (b .exit)) (now (msr .exit)) ≡ setupCall (now (bytes .entry)) (now (block .entry)) (now (a .entry)) (now (b .entry)) (now (msr .entry)) ⌝ }
+{
+    x86_vcpu::setup::vcpu_setup(bytes, block, a, b, msr)
 }
 
 fn set_io_intercept_of_range(

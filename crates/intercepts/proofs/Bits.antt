@@ -1,23 +1,22 @@
 -- Each of the 98,304 bits of the frames is that of exactly one item. Assumes nothing.
-use Prim.Native.Nat.{ℕ, _+_, _-_, _*_, _<_, _≤_}
+use Prim.Native.Nat.{ℕ, _+_, _-_, _*_, _<_}
 use native.Mathlib.Decide.{decLt}
 use native.Mathlib.Omega.{arith}
-use mathlib.Core.Path.{_≡_, refl, sym, ap, ap₂, _∙_, subst}
+use mathlib.Core.Path.{_≡_, refl, sym, ap, ap₂, _∙_}
 use mathlib.Core.Logic.{inl, inr, dite}
-use mathlib.Core.Bool.{Bool}
-use mathlib.Core.List.{List, _++_}
+use mathlib.Core.List.{_++_}
 use lib.ListN.{length, length-append}
 use borrow.Author.Tests.{lt-ltb, le-ltb}
 use Rattle.structs.specs.declared.Access.{Access}
 use Rattle.structs.specs.declared.Access.the-variants.{Read, Write}
 use Rattle.structs.specs.Bitmap.{bitAt}
-use Rattle.structs.specs.Frames.{portIntercept, msrIndex, msrIntercept}
-use Rattle.structs.specs.Numbers.{IsPort, IsMsr}
+use Rattle.structs.specs.Frames.{msrIndex}
+use Rattle.structs.specs.Numbers.{IsMsr}
 use Rattle.structs.proofs.BitmapLaws as BitmapLaws
 use Rattle.structs.proofs.BitmapLaws.{bitAt-first, bitAt-second}
-use Rattle.structs.proofs.PortLaws.{port-in-a, port-in-b}
-use Rattle.structs.proofs.MsrLaws.{number, low-index, high-index, index-lt, msr-of-bit, one-msr}
-use Rattle.intercepts.specs.Edits.{Frames, bytesOf, lengthsOf, Item, port, access, Real, trapped}
+use Rattle.structs.proofs.PortLaws.{port-in-a, port-in-b, port-bit}
+use Rattle.structs.proofs.MsrLaws.{low-index, high-index, index-lt, msr-of-bit, one-msr}
+use Rattle.intercepts.specs.Edits.{Frames, bytesOf, Item, port, access, Real, trapped}
 use Rattle.intercepts.specs.TwoHands.{Whole, Bytes, place, HasItem}
 
 -- ---- the place of an item
@@ -59,33 +58,17 @@ module _ (f : Frames) (w : Whole f) where
   in-msr : length (f .msr) ≡ 4096
   in-msr = ap (λ (l : ℕ × ℕ × ℕ). l .2) w
 
-  bit-a : (n : ℕ) → n < 0x8000 → bitAt (bytesOf f) n ≡ bitAt (f .a) n
-  bit-a n l = bitAt-first (f .a) _ n (omega (arith, in-a))
-
-  rest : (n : ℕ) → bitAt (bytesOf f) (0x8000 + n) ≡ bitAt (f .b ++ f .msr) n
-  rest n =
-      let e : 0x8000 + n ≡ 8 * length (f .a) + n = omega (arith, in-a) in
-      ap (bitAt (bytesOf f)) e ∙ bitAt-second (f .a) _ n
-
-  bit-b : (n : ℕ) → n < 0x8000 → bitAt (bytesOf f) (0x8000 + n) ≡ bitAt (f .b) n
-  bit-b n l = rest n ∙ bitAt-first (f .b) (f .msr) n (omega (arith, in-b))
-
-  bit-msr : (n : ℕ) → bitAt (bytesOf f) (0x1_0000 + n) ≡ bitAt (f .msr) n
-  bit-msr n =
-      let e : 0x1_0000 + n ≡ 0x8000 + (0x8000 + n) = omega arith in
-      let g : 0x8000 + n ≡ 8 * length (f .b) + n = omega (arith, in-b) in
-      ap (bitAt (bytesOf f)) e ∙ rest (0x8000 + n) ∙ ap (bitAt (f .b ++ f .msr)) g ∙ bitAt-second (f .b) (f .msr) n
+  ports-length : length (f .a ++ f .b) ≡ 8192
+  ports-length = rw (length-append (f .a) (f .b)) (omega (arith, in-a, in-b))
 
   pub bytes : length (bytesOf f) ≡ 12288
-  bytes = rw (length-append, length-append) (omega (arith, in-a, in-b, in-msr))
+  bytes = rw (length-append (f .a ++ f .b) (f .msr)) (omega (arith, ports-length, in-msr))
 
   pub bit : (i : Item) → Real i → trapped f i ≡ bitAt (bytesOf f) (place i)
-  bit (port p) r =
-      dite (decLt p 0x8000)
-      (λ l. port-in-a (f .a) (f .b) p l ∙ sym (bit-a p l))
-      (λ g. let e : p ≡ 0x8000 + (p - 0x8000) = omega arith in
-      ap (portIntercept (f .a) (f .b)) e ∙ port-in-b (f .a) (f .b) (p - 0x8000) ∙ sym (bit-b (p - 0x8000) (omega arith)) ∙ ap (bitAt (bytesOf f)) (sym e))
-  bit (access x m) r = sym (ap (bitAt (bytesOf f)) (place-as x m r) ∙ bit-msr (msrIndex x m))
+  bit (port p) r = port-bit (f .a) (f .b) in-a p ∙ sym (bitAt-first (f .a ++ f .b) (f .msr) p (omega (arith, ports-length)))
+  bit (access x m) r =
+      let e : place (access x m) ≡ 8 * length (f .a ++ f .b) + msrIndex x m = omega (arith, place-as x m r, ports-length) in
+      sym (ap (bitAt (bytesOf f)) e ∙ bitAt-second (f .a ++ f .b) (f .msr) (msrIndex x m))
 
 -- ---- frames that agree on all items
 

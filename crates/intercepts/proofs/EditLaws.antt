@@ -1,4 +1,4 @@
--- One edit: its number, the lengths that it keeps, each bit after it; and two edits with nothing in common, in either order. The three edits of MSRs are one, of
+-- One edit: its number, the lengths that it keeps, that bytes stay bytes, each bit after it; and two edits with nothing in common, in either order. The three edits of MSRs are one, of
 -- some accesses. Assumes nothing.
 use Prim.Native.Nat.{ℕ, _+_, _-_, _<_, _≤_}
 use native.Mathlib.Decide.{decLt, ℕ-discrete}
@@ -9,20 +9,20 @@ use mathlib.Core.Bool.{Bool, true, false, cond, not, _&&_}
 use mathlib.Core.List.{List, [], _∷_}
 use lib.Dec.{T, eqb, ltb}
 use lib.ListN.{length}
-use borrow.Author.Tests.{eqb-true, eqb-false, ltb-true, ltb-false, eq-eqb, ne-eqb}
+use borrow.Author.Tests.{ltb-true, ltb-false, eq-eqb, ne-eqb}
 use Rattle.bits.specs.Refuses.{by, Refuses}
 use Rattle.bits.proofs.Tells.{cond-all, refuses-one}
 use Rattle.structs.specs.declared.Access.{Access}
 use Rattle.structs.specs.declared.Access.the-variants.{Read, Write}
 use Rattle.structs.specs.Bitmap.{inRange}
 use Rattle.structs.specs.Frames.{IOBitmap, PortEdit, MsrEdit, framesOf, portIntercept, msrIntercept, editPorts, editMsrs, covered}
-use Rattle.structs.specs.Numbers.{PortNumbers, MsrNumbers, IsPort, IsMsr}
+use Rattle.structs.specs.Numbers.{PortNumbers, MsrNumbers, IsMsr}
 use Rattle.structs.proofs.BitmapLaws.{range-of-one, guarded-comm}
-use Rattle.structs.proofs.PortLaws.{port-numbers, port-refused, port-length-a, port-length-b, port-edited, ports-commute}
-use Rattle.structs.proofs.MsrLaws.{msr-numbers, msr-refused, msr-length, msr-edited, msrs-commute}
+use Rattle.structs.proofs.PortLaws.{port-numbers, port-refused, port-length-a, port-length-b, port-below, port-edited, ports-commute}
+use Rattle.structs.proofs.MsrLaws.{msr-numbers, msr-refused, msr-length, msr-below, msr-edited, msrs-commute}
 use Rattle.call_specs.specs.Calls.{portCall, msrCall, reads, writes, both}
 use Rattle.intercepts.specs.Edits.{Frames, lengthsOf, Edit, setIoInterceptOfRange, setReadIntercept, setWriteIntercept, setMsrInterceptOfRange, Edited, portsEdited, msrsEdited, edited, Item, port, access, Real, trapped, covers, asked}
-use Rattle.intercepts.specs.TwoHands.{Disjoint, msrRules, rules}
+use Rattle.intercepts.specs.TwoHands.{Disjoint, msrRules, rules, Bytes}
 
 -- ---- edits of MSRs as one
 
@@ -75,7 +75,7 @@ asked-as (setReadIntercept m v) = refl
 asked-as (setWriteIntercept m v) = refl
 asked-as (setMsrInterceptOfRange m v) = refl
 
--- ---- lengths
+-- ---- lengths, and bytes
 
 lengths-as : (f : Frames) (k : Kind) → lengthsOf (editedAs f k .frames) ≡ lengthsOf f
 unfolding portCall msrCall
@@ -87,6 +87,17 @@ lengths-as f (msrs l m v) =
 
 pub lengths-kept : (f : Frames) (e : Edit) → lengthsOf (edited f e .frames) ≡ lengthsOf f
 lengths-kept f e = ap (λ (r : Edited). lengthsOf (r .frames)) (edited-as f e) ∙ lengths-as f (kindOf e)
+
+bytes-as : (f : Frames) (k : Kind) → Bytes f → Bytes (editedAs f k .frames)
+unfolding portCall msrCall
+bytes-as f (ports base count v) w =
+    cond-all (λ (r : PortEdit). Bytes (portsEdited (f .msr) r .frames)) (ltb 1 v) _ _ (λ _. w)
+    (λ _. let p = port-below (f .a) (f .b) base count (eqb v 1) (w .0) (w .1) in (p .0, p .1, w .2))
+bytes-as f (msrs l m v) w =
+    cond-all (λ (r : MsrEdit). Bytes (msrsEdited (f .a) (f .b) r .frames)) (ltb 1 v) _ _ (λ _. w) (λ _. (w .0, w .1, msr-below (f .msr) m 1 l (eqb v 1) (w .2)))
+
+pub bytes-kept : (f : Frames) (e : Edit) → Bytes f → Bytes (edited f e .frames)
+bytes-kept f e w = rw (edited-as f e) (bytes-as f (kindOf e) w)
 
 -- ---- numbers
 
@@ -147,7 +158,7 @@ alike f g same e =
 -- ---- each bit after an edit
 
 -- what an edit of number n, which covers or does not, makes of a bit
-told : (n : ℕ) (covered v w : Bool) {x : Bool} → (n ≡ 0 → x ≡ cond covered v w) → (n ≢ 0 → x ≡ w) → x ≡ cond (eqb n 0 && covered) v w
+pub told : (n : ℕ) (covered v w : Bool) {x : Bool} → (n ≡ 0 → x ≡ cond covered v w) → (n ≢ 0 → x ≡ w) → x ≡ cond (eqb n 0 && covered) v w
 told n covered v w made left = dite (ℕ-discrete n 0) (λ e. rw (eq-eqb n 0 e) (made e)) (λ o. rw (ne-eqb n 0 o) (left o))
 
 port-at : (a b : List ℕ) (base count v p : ℕ)

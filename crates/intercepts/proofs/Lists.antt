@@ -1,21 +1,23 @@
 -- Lists of edits: lists with nothing in common, however they are shuffled, and the last accepted edit that covers an item. Assumes nothing.
 use Prim.Native.Nat.{ℕ}
-use native.Mathlib.Decide.{ℕ-discrete}
 use mathlib.Core.Path.{_≡_, refl, sym, ap, _∙_}
-use mathlib.Core.Logic.{dite}
 use mathlib.Core.Bool.{Bool, true, false, cond, _&&_}
 use mathlib.Core.List.{List, [], _∷_, _++_, List·Memᴰ, List·Memᴰ·head, List·Memᴰ·tail}
 use lib.Dec.{T, eqb}
 use borrow.Author.Tests.{eq-eqb, ne-eqb}
 use Rattle.intercepts.specs.Edits.{Frames, lengthsOf, Edit, edited, after, Item, Real, trapped, covers, asked, log, lastAsked}
-use Rattle.intercepts.specs.TwoHands.{Disjoint, DisjointLists, Shuffle, none, first, second, Untouched}
-use Rattle.intercepts.proofs.EditLaws.{lengths-kept, alike, bit-after, either-order}
+use Rattle.intercepts.specs.TwoHands.{Disjoint, DisjointLists, Shuffle, none, first, second, Bytes, Untouched}
+use Rattle.intercepts.proofs.EditLaws.{lengths-kept, bytes-kept, alike, told, bit-after, either-order}
 
 -- ---- at every place of a list
 
 pub lengths : (f : Frames) (es : List Edit) → lengthsOf (after f es) ≡ lengthsOf f
 lengths f [] = refl
 lengths f (e ∷ es) = lengths (edited f e .frames) es ∙ lengths-kept f e
+
+pub stay-bytes : (f : Frames) (es : List Edit) → Bytes f → Bytes (after f es)
+stay-bytes f [] w = w
+stay-bytes f (e ∷ es) w = stay-bytes (edited f e .frames) es (bytes-kept f e w)
 
 pub anywhere : (f : Frames) (es : List Edit) (e : Edit) → edited (after f es) e .refusal ≡ edited f e .refusal
 anywhere f es e = alike f (after f es) (lengths f es) e
@@ -59,7 +61,7 @@ last-decides f (e ∷ es) i r = last-decides (edited f e .frames) es i r ∙ ap 
 
 kept : (n : ℕ) (c v w : Bool) → (n ≡ 0 → T c → ⊥) → cond (eqb n 0 && c) v w ≡ w
 kept n true v w out = rw (ne-eqb n 0 (λ e. out e tt))
-kept n false v w out = dite (ℕ-discrete n 0) (λ e. rw (eq-eqb n 0 e)) (λ o. rw (ne-eqb n 0 o))
+kept n false v w out = sym (told n false v w (λ _. refl) (λ _. refl))
 
 made : (n : ℕ) (c v w : Bool) → n ≡ 0 → T c → cond (eqb n 0 && c) v w ≡ v
 made n true v w e t = rw (eq-eqb n 0 e)
@@ -71,12 +73,12 @@ untouched f (e ∷ es) i r out =
     untouched (edited f e .frames) es i r (λ d m z t. out d (List·Memᴰ·tail m) (sym (alike f (edited f e .frames) (lengths-kept f e) d) ∙ z) t)
     ∙ bit-after f e i r ∙ kept _ (covers e i) _ _ (out e (List·Memᴰ·head refl))
 
-pub decided : (f : Frames) (before : List Edit) (e : Edit) (later : List Edit) (i : Item) → Real i
-    → edited f e .refusal ≡ 0 → T (covers e i) → Untouched f later i → trapped (after f (before ++ (e ∷ later))) i ≡ asked e
-decided f before e later i r z t out =
-    ap (λ (g : Frames). trapped g i) (after-append f before (e ∷ later))
-    ∙ untouched (edited g e .frames) later i r (λ d m y. out d m (sym (alike f (edited g e .frames) (lengths-kept g e ∙ lengths f before) d) ∙ y))
-    ∙ bit-after g e i r ∙ made _ (covers e i) _ _ (anywhere f before e ∙ z) t
+pub decided : (f : Frames) (earlier : List Edit) (e : Edit) (later : List Edit) (i : Item) → Real i
+    → edited f e .refusal ≡ 0 → T (covers e i) → Untouched f later i → trapped (after f (earlier ++ (e ∷ later))) i ≡ asked e
+decided f earlier e later i r z t out =
+    ap (λ (g : Frames). trapped g i) (after-append f earlier (e ∷ later))
+    ∙ untouched (edited g e .frames) later i r (λ d m y. out d m (sym (alike f (edited g e .frames) (lengths-kept g e ∙ lengths f earlier) d) ∙ y))
+    ∙ bit-after g e i r ∙ made _ (covers e i) _ _ (anywhere f earlier e ∙ z) t
   where
     g : Frames
-    g = after f before
+    g = after f earlier

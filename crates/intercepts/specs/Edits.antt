@@ -1,4 +1,4 @@
--- Lists of edits of one guest's intercept frames (document 02, N8): each edit as the exported function's contract gives it, what an edit is about, and what the last
+-- Lists of edits of one guest's intercept frames (document 02, N8): each edit as the exported function's contract gives it, what it covers, and what the last
 -- accepted one asked. Calls from C have arguments that fit their types; the definitions hold for every number, so nothing here supposes it. Assumes nothing.
 use Prim.Native.Nat.{ℕ, _+_}
 use mathlib.Core.Bool.{Bool, false, cond, _&&_}
@@ -20,7 +20,7 @@ pub record Frames : Type 0 where
   pub msr : List ℕ
 
 abbrev pub bytesOf : Frames → List ℕ
-bytesOf f = f .a ++ (f .b ++ f .msr)
+bytesOf f = (f .a ++ f .b) ++ f .msr
 
 abbrev pub lengthsOf : Frames → ℕ × ℕ × ℕ
 lengthsOf f = (length (f .a), length (f .b), length (f .msr))
@@ -34,6 +34,7 @@ pub data Edit : Type 0 where
   -- the MSR
   setReadIntercept : ℕ → ℕ → Edit
   setWriteIntercept : ℕ → ℕ → Edit
+  -- one MSR, its reads and its writes
   setMsrInterceptOfRange : ℕ → ℕ → Edit
 
 -- its refusal or 0, and the frames as it leaves them
@@ -58,9 +59,9 @@ abbrev pub after : Frames → List Edit → Frames
 after f [] = f
 after f (e ∷ es) = after (edited f e .frames) es
 
--- ---- what an edit is about
+-- ---- what an edit covers
 
--- a port, or an access to an MSR: reading and writing one are two items
+-- a port, or an access to an MSR, of any number: reading and writing one MSR are two items
 pub data Item : Type 0 where
   port : ℕ → Item
   access : Access → ℕ → Item
@@ -70,7 +71,7 @@ abbrev pub Real : Item → Type 0
 Real (port p) = IsPort p
 Real (access x m) = IsMsr m
 
--- its bit in the frames
+-- its bit in the frames, if it has one
 abbrev pub trapped : Frames → Item → Bool
 trapped f (port p) = portIntercept (f .a) (f .b) p
 trapped f (access x m) = msrIntercept (f .msr) x m
@@ -95,7 +96,7 @@ asked (setReadIntercept m v) = eqb v 1
 asked (setWriteIntercept m v) = eqb v 1
 asked (setMsrInterceptOfRange m v) = eqb v 1
 
--- ---- the last word
+-- ---- what the last accepted edit asked
 
 -- an edit of a list, and whether it was accepted
 pub record Made : Type 0 where

@@ -26,7 +26,7 @@ Disjoint d e = (i : Item) → Real i → T (covers d i) → T (covers e i) → �
 abbrev pub DisjointLists : List Edit → List Edit → Type 0
 DisjointLists xs ys = (d e : Edit) → List·Memᴰ d xs → List·Memᴰ e ys → Disjoint d e
 
--- the third list is the first two shuffled together, each in its own order
+-- the third list is the first two interleaved, each in its own order
 pub data Shuffle : List Edit → List Edit → List Edit → Type 0 where
   none : Shuffle [] [] []
   first : {e : Edit} {xs ys zs : List Edit} → Shuffle xs ys zs → Shuffle (e ∷ xs) ys (e ∷ zs)
@@ -34,9 +34,9 @@ pub data Shuffle : List Edit → List Edit → List Edit → Type 0 where
 
 -- ---- the numbers
 
--- by which an edit is refused, from the frames' lengths and its arguments alone
+-- by which an edit is refused, from its arguments and the lengths of A, B and MSR alone
 abbrev pub msrRules : ℕ → ℕ → ℕ → List Rule
-msrRules length m v = by 2 (1 < v) ∷ by 2 (length ≢ 4096) ∷ by 11 (IsMsr m → ⊥) ∷ []
+msrRules len m v = by 2 (1 < v) ∷ by 2 (len ≢ 4096) ∷ by 11 (IsMsr m → ⊥) ∷ []
 
 abbrev pub rules : ℕ × ℕ × ℕ → Edit → List Rule
 rules l (setIoInterceptOfRange base count v) =
@@ -78,7 +78,7 @@ added (access x m) = eqb m 0xE1 || (leb 0x800 m && leb m 0x83F)
 
 -- ---- the whole
 
--- no edit of the list that frames f accept covers the item
+-- no edit of the list that is accepted on f covers the item; what is accepted on f is accepted at its place (`anywhere`)
 abbrev pub Untouched : Frames → List Edit → Item → Type 0
 Untouched f es i = (e : Edit) → List·Memᴰ e es → edited f e .refusal ≡ 0 → T (covers e i) → ⊥
 
@@ -90,19 +90,22 @@ pub record TwoHands (f : Frames) : Type 0 where
   pub anywhere : (es : List Edit) (e : Edit) → edited (after f es) e .refusal ≡ edited f e .refusal
   -- a refused edit changes nothing
   pub refused : (e : Edit) → edited f e .refusal ≢ 0 → edited f e .frames ≡ f
-  -- the lengths stay, and so do the 12,288 bytes as many
+  -- no edit changes a length, so frames of 4,096 bytes each have 12,288 bytes after every list; and what were bytes stay bytes
   pub lengths : (es : List Edit) → lengthsOf (after f es) ≡ lengthsOf f
   pub bytes : Whole f → (es : List Edit) → length (bytesOf (after f es)) ≡ 12288
-  -- edits with nothing in common, accepted or not, leave the same frames in either order, in two lists and however these are shuffled
+  pub stay-bytes : Bytes f → (es : List Edit) → Bytes (after f es)
+  -- edits with nothing in common, accepted or not, leave the same frames in either order, two lists one after the other and interleaved
   pub either-order : (d e : Edit) → Disjoint d e → edited (edited f d .frames) e .frames ≡ edited (edited f e .frames) d .frames
   pub two-lists : (xs ys : List Edit) → DisjointLists xs ys → after (after f xs) ys ≡ after (after f ys) xs
   pub shuffled : (xs ys zs : List Edit) → Shuffle xs ys zs → DisjointLists xs ys → after f zs ≡ after (after f xs) ys
   -- each bit is as the last accepted edit that covers it asked, or as it was: as an equation, and case by case
   pub last-decides : (es : List Edit) (i : Item) → Real i → trapped (after f es) i ≡ lastAsked (log f es) i (trapped f i)
-  pub decided : (before : List Edit) (e : Edit) (later : List Edit) (i : Item) → Real i
-      → edited f e .refusal ≡ 0 → T (covers e i) → Untouched f later i → trapped (after f (before ++ (e ∷ later))) i ≡ asked e
+  pub decided : (earlier : List Edit) (e : Edit) (later : List Edit) (i : Item) → Real i
+      → edited f e .refusal ≡ 0 → T (covers e i) → Untouched f later i → trapped (after f (earlier ++ (e ∷ later))) i ≡ asked e
   pub untouched : (es : List Edit) (i : Item) → Real i → Untouched f es i → trapped (after f es) i ≡ trapped f i
-  -- or as an accepted setup left it, if f are the frames that setup was lent
+  -- or as an accepted setup left it, if f are the frames that setup was lent; they have 4,096 bytes each, before and after
+  pub setup-whole : (session block : List ℕ) → setupCall session block (f .a) (f .b) (f .msr) .refusal ≡ 0
+      → Whole f × Whole (leftBy (setupCall session block (f .a) (f .b) (f .msr)))
   pub after-setup : (session block : List ℕ) → setupCall session block (f .a) (f .b) (f .msr) .refusal ≡ 0 → (es : List Edit) (i : Item) → Real i
       → trapped (after (leftBy (setupCall session block (f .a) (f .b) (f .msr))) es) i
       ≡ lastAsked (log (leftBy (setupCall session block (f .a) (f .b) (f .msr))) es) i (added i || trapped f i)

@@ -2,14 +2,14 @@
 -- Assumes nothing.
 use mathlib.Core.Path.{_≡_, refl, sym, ap, _∙_}
 use mathlib.Core.Bool.{Bool, true, false, cond}
-use mathlib.Core.List.{List, [], _∷_, _++_}
+use mathlib.Core.List.{List, _++_}
 use mathlib.Core.Logic.{_≢_, dite}
 use Prim.Native.Nat.{ℕ, zero, suc, _+_, _-_, _*_, _/_, _%_, _≤_, _<_}
 use native.Mathlib.Nat.{add-zero, add-suc, sub-self}
 use native.Mathlib.Decide.{decLe, decLt, ℕ-discrete}
 use native.Mathlib.Omega.{arith}
 use lib.Dec.{T, eqb}
-use lib.ListN.{length, getD, set, take, drop, length-set, length-drop}
+use lib.ListN.{length, getD, set, take, drop, length-set, length-drop, List·getD-append}
 use lib.Seq.{getD-set-same, getD-set-other, set-out, set-set, set-comm, take-all, getD-append-add, ext-getD}
 use borrow.Author.Tests.{lt-ltb, le-ltb, le-leb, lt-leb, eq-eqb, ne-eqb}
 use Rattle.bits.specs.Words.{bit, withBit}
@@ -176,7 +176,7 @@ below-set xs j x l b i =
     (λ h. dite (ℕ-discrete i j) (λ e. rw (e, getD-set-same xs j x 0 h) l) (λ d. rw (getD-set-other xs j i x 0 d) (b i)))
     (λ g. rw (set-out xs j x (omega arith)) (b i))
 
-below-setBits : (xs : List ℕ) (n count : ℕ) (v : Bool) → Below 256 xs → Below 256 (setBits xs n count v)
+pub below-setBits : (xs : List ℕ) (n count : ℕ) (v : Bool) → Below 256 xs → Below 256 (setBits xs n count v)
 unfolding setBits setBit
 below-setBits xs n zero v b = b
 below-setBits xs n (suc count) v b =
@@ -186,12 +186,7 @@ below-setBits xs n (suc count) v b =
 
 -- of two lists one after the other
 pub bitAt-first : (xs ys : List ℕ) (n : ℕ) → n < 8 * length xs → bitAt (xs ++ ys) n ≡ bitAt xs n
-bitAt-first xs ys n h = ap (bit (n % 8)) (getD-first xs (n / 8) (omega arith))
-  where
-    getD-first : (zs : List ℕ) (i : ℕ) → i < length zs → getD (zs ++ ys) i 0 ≡ getD zs i 0
-    getD-first [] i l = absurd (omega arith)
-    getD-first (z ∷ zs) zero l = refl
-    getD-first (z ∷ zs) (suc i) l = getD-first zs i (omega arith)
+bitAt-first xs ys n h = ap (bit (n % 8)) (List·getD-append xs ys 0 (n / 8) (omega arith))
 
 pub bitAt-second : (xs ys : List ℕ) (n : ℕ) → bitAt (xs ++ ys) (8 * length xs + n) ≡ bitAt ys n
 bitAt-second xs ys n =

@@ -10,12 +10,13 @@ use native.Mathlib.Omega.{arith}
 use lib.Dec.{T, eqb, eqb→eq}
 use lib.ListN.{length}
 use borrow.Author.Tests.{lt-ltb, le-ltb, le-leb, lt-leb, eq-eqb, ne-eqb}
+use Rattle.bits.specs.LittleEndian.{Below}
 use Rattle.structs.specs.declared.Access.{Access}
 use Rattle.structs.specs.declared.Access.the-variants.{Read, Write}
 use Rattle.structs.specs.Bitmap.{setBits, inRange}
 use Rattle.structs.specs.Frames.{quarterOf, msrIndex, msrIntercept, sameAccess, among, covered, setMsrs, msrRefusal, editMsrs}
 use Rattle.structs.specs.Numbers.{Low, High, IsMsr, MsrNumbers}
-use Rattle.structs.proofs.BitmapLaws.{length-setBits, inside, outside, in-range, by-range, setBits-comm, guarded-comm}
+use Rattle.structs.proofs.BitmapLaws.{length-setBits, below-setBits, inside, outside, in-range, by-range, setBits-comm, guarded-comm}
 
 -- ---- the numbers
 
@@ -213,6 +214,11 @@ unfolding setMsrs
 length-setMsrs xs base count [] v = refl
 length-setMsrs xs base count (x ∷ accesses) v = length-setMsrs (setBits xs (msrIndex x base) count v) base count accesses v ∙ length-setBits xs (msrIndex x base) count v
 
+below-setMsrs : (xs : List ℕ) (base count : ℕ) (accesses : List Access) (v : Bool) → Below 256 xs → Below 256 (setMsrs xs base count accesses v)
+unfolding setMsrs
+below-setMsrs xs base count [] v b = b
+below-setMsrs xs base count (x ∷ accesses) v b = below-setMsrs (setBits xs (msrIndex x base) count v) base count accesses v (below-setBits xs (msrIndex x base) count v b)
+
 -- what is written twice is written where either wrote
 merge : (p q r v w : Bool) → cond (q && r) v (cond (p && r) v w) ≡ cond ((p || q) && r) v w
 merge true true true v w = refl
@@ -252,6 +258,15 @@ module _ (xs : List ℕ) (base count : ℕ) (accesses : List Access) (v : Bool) 
       go : (t : Bool) → length (cond t (setMsrs xs base count accesses v) xs) ≡ length xs
       go true = length-setMsrs xs base count accesses v
       go false = refl
+
+  -- and bytes
+  pub msr-below : Below 256 xs → Below 256 (editMsrs xs base count accesses v .frame)
+  unfolding editMsrs
+  msr-below b = go (eqb (msrRefusal (length xs) base (base + count)) 0)
+    where
+      go : (t : Bool) → Below 256 (cond t (setMsrs xs base count accesses v) xs)
+      go true = below-setMsrs xs base count accesses v b
+      go false = b
 
   -- after an accepted edit the intercept of an access to an MSR is what was asked if it is one of those edited, and else as before
   pub msr-edited : editMsrs xs base count accesses v .refusal ≡ 0 → (y : Access) (m : ℕ) → IsMsr m

@@ -1,19 +1,20 @@
 -- Laws of port edits: what each number means, what each port's intercept is after an accepted edit, that edits with no port in common commute, and which bit of A
 -- or B is a port's. Edits of ports and of MSRs in one list: crate `intercepts`. Assumes nothing.
-use mathlib.Core.Path.{_≡_, refl, sym, _∙_}
+use mathlib.Core.Path.{_≡_, refl, sym, ap, _∙_}
 use mathlib.Core.Bool.{Bool, true, false, cond}
-use mathlib.Core.List.{List}
+use mathlib.Core.List.{List, _++_}
 use mathlib.Core.Logic.{_≢_, dite, _⊎_, inl, inr, ⊎-elim, _↔_}
-use Prim.Native.Nat.{ℕ, zero, suc, _+_, _-_, _≤_, _<_, min}
+use Prim.Native.Nat.{ℕ, zero, suc, _+_, _-_, _*_, _≤_, _<_, min}
 use native.Mathlib.Decide.{decLt, ℕ-discrete}
 use native.Mathlib.Omega.{arith}
 use lib.Dec.{T, eqb, eqb→eq}
 use lib.ListN.{length}
 use borrow.Author.Tests.{lt-ltb, le-ltb, eq-eqb, ne-eqb}
+use Rattle.bits.specs.LittleEndian.{Below}
 use Rattle.structs.specs.Bitmap.{bitAt, setBit, setBits, inRange}
 use Rattle.structs.specs.Frames.{portIndex, portIntercept, IOBitmap, setPort, setPorts, portRefusal, framesOf, editPorts}
 use Rattle.structs.specs.Numbers.{PortNumbers, IsPort}
-use Rattle.structs.proofs.BitmapLaws.{length-setBits, inside, outside, by-range, in-range, setBits-comm, next-bit, guarded-comm}
+use Rattle.structs.proofs.BitmapLaws.{length-setBits, below-setBits, inside, outside, by-range, in-range, setBits-comm, next-bit, bitAt-first, bitAt-second, guarded-comm}
 
 -- ---- the numbers
 
@@ -127,6 +128,13 @@ length-after io base count v = go (accepted io base count)
     go true = rw (setPorts-frames io base count v) (length-setBits (io .a) _ _ v, length-setBits (io .b) _ _ v)
     go false = (refl, refl)
 
+below-after : (io : IOBitmap) (base count : ℕ) (v : Bool) → Below 256 (io .a) → Below 256 (io .b) → Below 256 (after io base count v .a) × Below 256 (after io base count v .b)
+below-after io base count v x y = go (accepted io base count)
+  where
+    go : (t : Bool) → Below 256 (cond t (setPorts io base count v) io .a) × Below 256 (cond t (setPorts io base count v) io .b)
+    go true = rw (setPorts-frames io base count v) (below-setBits (io .a) _ _ v x, below-setBits (io .b) _ _ v y)
+    go false = (x, y)
+
 module _ (a b : List ℕ) (base count : ℕ) (v : Bool) where
   -- accepted, and refused by each number, exactly where document 01 says
   pub port-numbers : PortNumbers (length a) (length b) base count (editPorts a b base count v .refusal)
@@ -146,6 +154,11 @@ module _ (a b : List ℕ) (base count : ℕ) (v : Bool) where
   pub port-length-b : length (editPorts a b base count v .b) ≡ length b
   unfolding editPorts
   port-length-b = length-after (record { a = a; b = b }) base count v .1
+
+  -- and bytes
+  pub port-below : Below 256 a → Below 256 b → Below 256 (editPorts a b base count v .a) × Below 256 (editPorts a b base count v .b)
+  unfolding editPorts
+  port-below = below-after (record { a = a; b = b }) base count v
 
   -- after an accepted edit a port's intercept is what was asked if the port is one of those edited, and else as before
   pub port-edited : editPorts a b base count v .refusal ≡ 0 → (port : ℕ)
@@ -199,3 +212,12 @@ unfolding portIntercept portIndex
 port-in-b a b n =
     let e : 0x8000 + n - 0x8000 ≡ n = omega arith in
     rw (le-ltb (0x8000 + n) 0x8000 (omega arith), e)
+
+-- of A and B one after the other
+pub port-bit : (a b : List ℕ) → length a ≡ 4096 → (n : ℕ) → portIntercept a b n ≡ bitAt (a ++ b) n
+port-bit a b la n =
+    dite (decLt n 0x8000)
+    (λ l. port-in-a a b n l ∙ sym (bitAt-first a b n (omega arith)))
+    (λ g. let e : n ≡ 0x8000 + (n - 0x8000) = omega arith in
+    let f : n ≡ 8 * length a + (n - 0x8000) = omega arith in
+    ap (portIntercept a b) e ∙ port-in-b a b (n - 0x8000) ∙ sym (ap (bitAt (a ++ b)) f ∙ bitAt-second a b (n - 0x8000)))

@@ -2,18 +2,17 @@
 -- MSR frame. Assumes nothing.
 use mathlib.Core.Path.{_≡_, refl, sym, ap, ap₂, _∙_}
 use mathlib.Core.List.{List, [], _∷_, _++_, flatMap, append-nil, append-assoc}
-use mathlib.Core.Logic.{dite}
 use Prim.Native.Nat.{ℕ, _+_, _-_, _*_, _/_, _%_, _≤_, _<_}
 use native.Mathlib.Nat.{add-zero, zero-add}
-use native.Mathlib.Decide.{decLt}
 use native.Mathlib.Omega.{arith}
-use borrow.Author.Tests.{lt-ltb, le-ltb}
 use lib.ListN.{length, take, drop, length-append, length-take, length-drop}
 use lib.Seq.{getD-drop, getD-take}
 use Rattle.bits.specs.Words.{bit}
 use Rattle.structs.specs.Bitmap.{bitAt}
-use Rattle.structs.specs.Frames.{portIndex, portIntercept, quarterOf, msrIntercept}
+use Rattle.structs.specs.Frames.{portIntercept, msrIntercept}
 use Rattle.structs.proofs.BitmapLaws.{part-is-drop}
+use Rattle.structs.proofs.PortLaws.{port-in-a, port-in-b, port-bit}
+use Rattle.structs.proofs.MsrLaws.{low-index, high-index}
 use Rattle.structs.specs.declared.Access.{Access}
 use Rattle.structs.specs.declared.Access.the-variants.{Read, Write}
 use Rattle.trap_sheet.specs.Runs.{Run, countOf, runsOf}
@@ -21,7 +20,6 @@ use Rattle.trap_sheet.specs.Sheet.{ports, msrs, totalIn, runsIn, runLine
 use Rattle.trap_sheet.specs.Search.{bitCount, bitRuns, bitLines, accessRuns, accessLines}
 use Rattle.trap_sheet.proofs.RunLaws.{most, shifted-length, runs-shifted, count-same}
 use Rattle.trap_sheet.proofs.OnesLaws.{count-add}
-use Rattle.trap_sheet.proofs.SearchLaws.{bit-low, bit-past}
 
 -- ---- parts of a list
 
@@ -37,28 +35,10 @@ bit-dropped xs k i =
 -- ---- ports
 
 module _ (a b : List ℕ) (la : length a ≡ 4096) (lb : length b ≡ 4096) where
-  port-low : (i : ℕ) → i < 0x8000 → portIntercept a b i ≡ bitAt a i
-  unfolding portIntercept portIndex
-  port-low i h = simp (lt-ltb i 0x8000 h)
-
-  port-high : (i : ℕ) → portIntercept a b (0x8000 + i) ≡ bitAt b i
-  unfolding portIntercept portIndex
-  port-high i =
-      let e : 0x8000 + i - 0x8000 ≡ i = omega arith in
-      simp (le-ltb (0x8000 + i) 0x8000 (omega arith), e)
-
-  port-bit : (i : ℕ) → portIntercept a b i ≡ bitAt (a ++ b) i
-  port-bit i =
-      dite (decLt i 0x8000)
-      (λ l. port-low i l ∙ sym (bit-low a b i (omega arith)))
-      (λ g. let e : i ≡ 0x8000 + (i - 0x8000) = omega arith in
-      let f : i - 8 * length a ≡ i - 0x8000 = omega arith in
-      ap (portIntercept a b) e ∙ port-high (i - 0x8000) ∙ ap (bitAt b) (sym f) ∙ sym (bit-past a b i (omega arith)))
-
   pub port-runs : runsIn (portIntercept a b) ports ≡ bitRuns 0 (a ++ b)
   port-runs =
       let n : 8 * length (a ++ b) ≡ 0x1_0000 = rw (length-append a b) (omega arith) in
-      append-nil (runsOf (portIntercept a b) 0 0x1_0000) ∙ rw n (runs-shifted (portIntercept a b) (bitAt (a ++ b)) 0 0 0x1_0000 (λ i _. rw (zero-add i) (port-bit i)))
+      append-nil (runsOf (portIntercept a b) 0 0x1_0000) ∙ rw n (runs-shifted (portIntercept a b) (bitAt (a ++ b)) 0 0 0x1_0000 (λ i _. rw (zero-add i) (port-bit a b la i)))
 
   pub port-total : totalIn (portIntercept a b) ports ≡ bitCount a + bitCount b
   port-total =
@@ -68,8 +48,8 @@ module _ (a b : List ℕ) (la : length a ≡ 4096) (lb : length b ≡ 4096) wher
       rw (p, q, add-zero (countOf t 0 0x1_0000))
       (count-add t 0 0x8000 0x8000
       ∙ ap₂ _+_
-      (count-same t (bitAt a) 0 0 0x8000 (λ i l. rw (zero-add i) (port-low i l)))
-      (count-same t (bitAt b) 0x8000 0 0x8000 (λ i l. rw (zero-add i) (port-high i))))
+      (count-same t (bitAt a) 0 0 0x8000 (λ i l. rw (zero-add i) (port-in-a a b i l)))
+      (count-same t (bitAt b) 0x8000 0 0x8000 (λ i l. rw (zero-add i) (port-in-b a b i))))
 
 -- ---- accesses to MSRs
 
@@ -97,28 +77,16 @@ module _ (msr half : List ℕ) (x : Access) (l : length half ≡ 2048) (low : (i
 
 module _ (msr : List ℕ) (l : length msr ≡ 4096) where
   read-low : (i : ℕ) → i < 0x2000 → msrIntercept msr Read i ≡ bitAt (take 2048 msr) i
-  unfolding quarterOf
-  read-low i h =
-      let e : 0 * 0x2000 + i % 0x2000 ≡ i = omega arith in
-      rw (lt-ltb i 0x2000 h, e) (sym (bit-taken msr 2048 i (omega arith)))
+  read-low i h = ap (bitAt msr) (low-index Read i (omega arith) ∙ omega arith) ∙ sym (bit-taken msr 2048 i (omega arith))
 
   read-high : (i : ℕ) → i < 0x2000 → msrIntercept msr Read (0xC000_0000 + i) ≡ bitAt (take 2048 msr) (0x2000 + i)
-  unfolding quarterOf
-  read-high i h =
-      let e : 1 * 0x2000 + (0xC000_0000 + i) % 0x2000 ≡ 0x2000 + i = omega arith in
-      rw (le-ltb (0xC000_0000 + i) 0x2000 (omega arith), e) (sym (bit-taken msr 2048 (0x2000 + i) (omega arith)))
+  read-high i h = ap (bitAt msr) (high-index Read (0xC000_0000 + i) (omega arith) ∙ omega arith) ∙ sym (bit-taken msr 2048 (0x2000 + i) (omega arith))
 
   write-low : (i : ℕ) → i < 0x2000 → msrIntercept msr Write i ≡ bitAt (drop 2048 msr) i
-  unfolding quarterOf
-  write-low i h =
-      let e : 2 * 0x2000 + i % 0x2000 ≡ 8 * 2048 + i = omega arith in
-      rw (lt-ltb i 0x2000 h, e) (sym (bit-dropped msr 2048 i))
+  write-low i h = ap (bitAt msr) (low-index Write i (omega arith) ∙ omega arith) ∙ sym (bit-dropped msr 2048 i)
 
   write-high : (i : ℕ) → i < 0x2000 → msrIntercept msr Write (0xC000_0000 + i) ≡ bitAt (drop 2048 msr) (0x2000 + i)
-  unfolding quarterOf
-  write-high i h =
-      let e : 3 * 0x2000 + (0xC000_0000 + i) % 0x2000 ≡ 8 * 2048 + (0x2000 + i) = omega arith in
-      rw (le-ltb (0xC000_0000 + i) 0x2000 (omega arith), e) (sym (bit-dropped msr 2048 (0x2000 + i)))
+  write-high i h = ap (bitAt msr) (high-index Write (0xC000_0000 + i) (omega arith) ∙ omega arith) ∙ sym (bit-dropped msr 2048 (0x2000 + i))
 
   front : length (take 2048 msr) ≡ 2048
   front = rw (length-take 2048 msr) (omega arith)

@@ -8,11 +8,10 @@ use native.Mathlib.Decide.{decLt, ℕ-discrete}
 use native.Mathlib.Omega.{arith}
 use borrow.Author.Tests.{eq-eqb, ne-eqb, eqb-true}
 use lib.Dec.{eqb}
-use lib.ListN.{length, getD, length-append, List·getD-append}
-use lib.Seq.{getD-append-add}
-use Rattle.bits.specs.Words.{bit, flag}
+use lib.ListN.{length, getD, length-append}
+use Rattle.bits.specs.Words.{flag}
 use Rattle.structs.specs.Bitmap.{fullByte, bitAt}
-use Rattle.structs.proofs.BitmapLaws.{bit-fullByte}
+use Rattle.structs.proofs.BitmapLaws.{bitAt-first, bitAt-second, bit-fullByte}
 use Rattle.trap_sheet.specs.Search.{allAre, Passed, Next}
 
 -- ---- bytes that are all the same
@@ -87,17 +86,8 @@ on P from n p f g m a b = dite (decLt m n) (λ l. f m a l) (λ l. g m (omega ari
 -- ---- two slices, the one behind the other
 
 module _ (xs ys : List ℕ) where
-  pub bit-low : (n : ℕ) → n < 8 * length xs → bitAt (xs ++ ys) n ≡ bitAt xs n
-  bit-low n h = ap (bit (n % 8)) (List·getD-append xs ys 0 (n / 8) (omega arith))
-
-  bit-high : (n : ℕ) → bitAt (xs ++ ys) (8 * length xs + n) ≡ bitAt ys n
-  bit-high n =
-      let q : (8 * length xs + n) / 8 ≡ length xs + n / 8 = omega arith in
-      let r : (8 * length xs + n) % 8 ≡ n % 8 = omega arith in
-      rw (q, r) (ap (bit (n % 8)) (getD-append-add xs ys (n / 8) 0))
-
-  pub bit-past : (n : ℕ) → 8 * length xs ≤ n → bitAt (xs ++ ys) n ≡ bitAt ys (n - 8 * length xs)
-  bit-past n h = let e : n ≡ 8 * length xs + (n - 8 * length xs) = omega arith in ap (bitAt (xs ++ ys)) e ∙ bit-high (n - 8 * length xs)
+  bit-past : (n : ℕ) → 8 * length xs ≤ n → bitAt (xs ++ ys) n ≡ bitAt ys (n - 8 * length xs)
+  bit-past n h = let e : n ≡ 8 * length xs + (n - 8 * length xs) = omega arith in ap (bitAt (xs ++ ys)) e ∙ bitAt-second xs ys (n - 8 * length xs)
 
   total : 8 * length (xs ++ ys) ≡ 8 * length xs + 8 * length ys
   total = rw (length-append xs ys) (omega arith)
@@ -108,8 +98,8 @@ module _ (xs ys : List ℕ) where
         record {
           after = s .after;
           within = omega (arith, total);
-          other = λ m a b. bit-low m (omega arith) ∙ s .other m a b;
-          found = λ _. bit-low r h ∙ s .found h;
+          other = λ m a b. bitAt-first xs ys m (omega arith) ∙ s .other m a b;
+          found = λ _. bitAt-first xs ys r h ∙ s .found h;
         }
 
     pub next-high : 8 * length xs ≤ from → Next ys v (from - 8 * length xs) r → Next (xs ++ ys) v from (8 * length xs + r)
@@ -118,7 +108,7 @@ module _ (xs ys : List ℕ) where
           after = omega (arith, s .after);
           within = omega (arith, total, s .within);
           other = λ m (a : from ≤ m) (b : m < 8 * length xs + r). bit-past m (omega arith) ∙ s .other (m - 8 * length xs) (omega arith) (omega arith);
-          found = λ (l : 8 * length xs + r < 8 * length (xs ++ ys)). bit-high r ∙ s .found (omega (arith, total, l));
+          found = λ (l : 8 * length xs + r < 8 * length (xs ++ ys)). bitAt-second xs ys r ∙ s .found (omega (arith, total, l));
         }
 
     pub next-over : (q : ℕ) → Next xs v from q → 8 * length xs ≤ q → Next ys v 0 r → Next (xs ++ ys) v from (8 * length xs + r)
@@ -127,7 +117,7 @@ module _ (xs ys : List ℕ) where
           after = omega (arith, s .after, s .within);
           within = omega (arith, total, t .within);
           other = on (λ m. bitAt (xs ++ ys) m ≡ not v) from (8 * length xs) (8 * length xs + r)
-              (λ m a b. bit-low m b ∙ s .other m a (omega arith))
+              (λ m a b. bitAt-first xs ys m b ∙ s .other m a (omega arith))
               (λ m a b. bit-past m a ∙ t .other (m - 8 * length xs) (omega arith) (omega arith));
-          found = λ (l : 8 * length xs + r < 8 * length (xs ++ ys)). bit-high r ∙ t .found (omega (arith, total, l));
+          found = λ (l : 8 * length xs + r < 8 * length (xs ++ ys)). bitAt-second xs ys r ∙ t .found (omega (arith, total, l));
         }

@@ -7,4 +7,4 @@ use Rattle.exported_calls.proofs.set_io_intercept_of_range.Tie as tie
 
 pub set-io-intercept-of-range-spec : {M : Type 1} → statement M
 set-io-intercept-of-range-spec =
-    tie.close (tie.spec (λ c κs. search needs) (λ c. search needs) (λ c. search needs) (λ c. ap (portsEdited _) (c .before .before .before .before .vcpu-set-io-intercept-of-range .ensures)))
+    tie.close (tie.spec (λ c κs. search needs) (λ c. search needs) (λ c. search needs) (λ c. ap (portsEdited _) (search needs)))

@@ -7,4 +7,4 @@ use Rattle.exported_calls.proofs.set_msr_intercept_of_range.Tie as tie
 
 pub set-msr-intercept-of-range-spec : {M : Type 1} → statement M
 set-msr-intercept-of-range-spec =
-    tie.close (tie.spec (λ c κs. search needs) (λ c. search needs) (λ c. ap (msrsEdited _ _) (c .before .before .vcpu-set-msr-intercept-of-range .ensures)))
+    tie.close (tie.spec (λ c κs. search needs) (λ c. search needs) (λ c. ap (msrsEdited _ _) (search needs)))

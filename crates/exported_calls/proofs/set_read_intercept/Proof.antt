@@ -7,4 +7,4 @@ use Rattle.exported_calls.proofs.set_read_intercept.Tie as tie
 
 pub set-read-intercept-spec : {M : Type 1} → statement M
 set-read-intercept-spec =
-    tie.close (tie.spec (λ c κs. search needs) (λ c. search needs) (λ c. ap (msrsEdited _ _) (c .before .before .vcpu-set-read-intercept .ensures)))
+    tie.close (tie.spec (λ c κs. search needs) (λ c. search needs) (λ c. ap (msrsEdited _ _) (search needs)))

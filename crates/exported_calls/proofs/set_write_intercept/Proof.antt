@@ -7,4 +7,4 @@ use Rattle.exported_calls.proofs.set_write_intercept.Tie as tie
 
 pub set-write-intercept-spec : {M : Type 1} → statement M
 set-write-intercept-spec =
-    tie.close (tie.spec (λ c κs. search needs) (λ c. search needs) (λ c. ap (msrsEdited _ _) (c .before .before .vcpu-set-write-intercept .ensures)))
+    tie.close (tie.spec (λ c κs. search needs) (λ c. search needs) (λ c. ap (msrsEdited _ _) (search needs)))

@@ -43,6 +43,9 @@ pub struct Field(pub u64);
 pub struct Frame(pub [u8; FRAME_LENGTH]);
 
 /// I/O bitmaps A and B, and the MSR bitmaps.
+///
+/// Edits with no port and no access to an MSR in common leave the same bytes in either order, and each bit is as the last accepted edit that covers it asked, or as it
+/// was before (the header, "Intercepts").
 #[derive(Clone)]
 pub struct Frames {
     pub io_a: Frame,

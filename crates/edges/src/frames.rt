@@ -30,21 +30,21 @@ pub fn ports() {
     port(1, 0xFFFF_FFFF, 1);
 }
 
-// One edit sets the intercept of a port, another clears that of a port, in both orders, where of both ports 0x605 alone is intercepted. Byte 192 of A after each.
+// One edit sets the intercept of a port and another clears that of a port, in both orders. Byte 192 of A after each order; before, port 0x605 is intercepted.
 fn both_orders(set: u32, clear: u32) {
     let mut a = [0u8; FRAME_SIZE];
     let mut b = [0u8; FRAME_SIZE];
     a[192] = 0x20;
     let mut other = a;
-    x86_vcpu::vcpu_set_io_intercept_of_range(&mut a, &mut b, set, 1, 1);
-    x86_vcpu::vcpu_set_io_intercept_of_range(&mut a, &mut b, clear, 1, 0);
-    x86_vcpu::vcpu_set_io_intercept_of_range(&mut other, &mut b, clear, 1, 0);
-    x86_vcpu::vcpu_set_io_intercept_of_range(&mut other, &mut b, set, 1, 1);
+    let refusal = x86_vcpu::vcpu_set_io_intercept_of_range(&mut a, &mut b, set, 1, 1)
+        | x86_vcpu::vcpu_set_io_intercept_of_range(&mut a, &mut b, clear, 1, 0)
+        | x86_vcpu::vcpu_set_io_intercept_of_range(&mut other, &mut b, clear, 1, 0)
+        | x86_vcpu::vcpu_set_io_intercept_of_range(&mut other, &mut b, set, 1, 1);
     replay::print_call(
         b"set_io_intercept_of_range, both orders",
         &[set as u64, clear as u64],
     );
-    replay::print_answer(0, &[wide(a[192]), wide(other[192])]);
+    replay::print_answer(refusal, &[wide(a[192]), wide(other[192])]);
 }
 
 pub fn orders() {

@@ -20,6 +20,20 @@ static unsigned below(unsigned n)
     return (unsigned)((any() >> 20) % n);
 }
 
+/* Any bytes. Inline, since a test may have no use for it. */
+static inline void fill(void *bytes, size_t n)
+{
+    uint8_t *b = bytes;
+    uint64_t x;
+
+    for (; n >= sizeof x; n -= sizeof x, b += sizeof x) {
+        x = any();
+        memcpy(b, &x, sizeof x);
+    }
+    x = any();
+    memcpy(b, &x, n);
+}
+
 static void fail(const char *what)
 {
     fprintf(stderr, TEST ": failed: %s\n", what);

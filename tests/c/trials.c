@@ -130,19 +130,6 @@ static int ports_bytes(void)
 
 /* ---- inputs: the bytes that decide, put among any others ---- */
 
-static void fill(void *bytes, size_t n)
-{
-    uint8_t *b = bytes;
-    uint64_t x;
-
-    for (; n >= sizeof x; n -= sizeof x, b += sizeof x) {
-        x = any();
-        memcpy(b, &x, sizeof x);
-    }
-    x = any();
-    memcpy(b, &x, n);
-}
-
 /* A record in this phase; most of it may have any content and stays as it was filled. */
 static void make_record(uint8_t *r, unsigned phase)
 {

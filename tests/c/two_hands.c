@@ -43,19 +43,6 @@ static void around_kept(const struct frames *f)
     }
 }
 
-static void fill(void *bytes, size_t n)
-{
-    uint8_t *b = bytes;
-    uint64_t x;
-
-    for (; n >= sizeof x; n -= sizeof x, b += sizeof x) {
-        x = any();
-        memcpy(b, &x, sizeof x);
-    }
-    x = any();
-    memcpy(b, &x, n);
-}
-
 static void right_lengths(void)
 {
     length[A] = length[B] = length[MSR] = FRAME;

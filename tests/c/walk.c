@@ -219,19 +219,6 @@ static uint8_t *record(void)
     return lent.record + from;
 }
 
-static void fill(void *bytes, size_t n)
-{
-    uint8_t *b = bytes;
-    uint64_t x;
-
-    for (; n >= sizeof x; n -= sizeof x, b += sizeof x) {
-        x = any();
-        memcpy(b, &x, sizeof x);
-    }
-    x = any();
-    memcpy(b, &x, n);
-}
-
 /* Another memory, of any bytes or of zeros; the last one must be as it was written. */
 static void renew_memory(int zeros)
 {

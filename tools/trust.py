@@ -2,7 +2,7 @@
 """Prints the two tables of docs/TRUST.md.
 
 Usage: tools/trust.py [--list] (in the repository's root). The first table counts what must be read: the definitions in specs/ that the contracts of
-the exported functions name, and those that they name in turn, and so for the statement over every list of calls and for those on capability words. The
+the exported functions name, and those that they name in turn, and so for each of the statements beside them. The
 second has each library crate's functions and lines. Lines are those with content; blank ones and comments do not count. With --list it prints the definitions of the first table.
 """
 import os

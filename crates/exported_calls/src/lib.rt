@@ -62,7 +62,7 @@ fn set_register(bytes: &mut [u8], index: u64, value: u64) -> u32
     x86_vcpu::session::vcpu_set_reg_of_index(bytes, index, value)
 }
 
-// The frames too, which edits follow.
+// The frames that setup leaves, on which edits go on.
 fn set_up_frames(bytes: &mut [u8], block: &[u8], a: &mut [u8], b: &mut [u8], msr: &mut [u8]) -> u32
     ensures { λ r. ⌜ framesCall r (now (bytes .exit)) (now (a .exit)) (now (b .exit)) (now (msr .exit)) ≡ setupCall (now (bytes .entry)) (now (block .entry)) (now (a .entry)) (now (b .entry)) (now (msr .entry)) ⌝ }
 {

@@ -15,17 +15,19 @@ use Rattle.structs.specs.Numbers.{IsMsr}
 use Rattle.structs.proofs.BitmapLaws as BitmapLaws
 use Rattle.structs.proofs.BitmapLaws.{bitAt-first, bitAt-second}
 use Rattle.structs.proofs.PortLaws.{port-in-a, port-in-b, port-bit}
-use Rattle.structs.proofs.MsrLaws.{low-index, high-index, index-lt, msr-of-bit, one-msr}
+use Rattle.structs.proofs.MsrLaws.{number, low-index, high-index, index-lt, msr-of-bit, one-msr}
 use Rattle.intercepts.specs.Edits.{Frames, bytesOf, Item, port, access, Real, trapped}
-use Rattle.intercepts.specs.TwoHands.{Whole, Bytes, place, HasItem}
+use Rattle.intercepts.specs.TwoHands.{Whole, Bytes, msrPlace, place, HasItem}
 
 -- ---- the place of an item
 
+msr-place : (x : Access) (m : ℕ) → IsMsr m → msrIndex x m ≡ number x * 0x4000 + msrPlace m
+msr-place x m (inl l) = rw (lt-ltb m 0x2000 (omega arith)) (low-index x m l)
+msr-place x m (inr h) = rw (le-ltb m 0x2000 (omega arith)) (omega (arith, high-index x m h))
+
 place-as : (x : Access) (m : ℕ) → IsMsr m → place (access x m) ≡ 0x1_0000 + msrIndex x m
-place-as Read m (inl l) = rw (lt-ltb m 0x2000 (omega arith)) (omega (arith, low-index Read m l))
-place-as Read m (inr h) = rw (le-ltb m 0x2000 (omega arith)) (omega (arith, high-index Read m h))
-place-as Write m (inl l) = rw (lt-ltb m 0x2000 (omega arith)) (omega (arith, low-index Write m l))
-place-as Write m (inr h) = rw (le-ltb m 0x2000 (omega arith)) (omega (arith, high-index Write m h))
+place-as Read m r = omega (arith, msr-place Read m r)
+place-as Write m r = omega (arith, msr-place Write m r)
 
 pub in-bytes : (i : Item) → Real i → place i < 98304
 in-bytes (port p) r = omega arith

@@ -101,7 +101,7 @@ bytes-kept f e w = rw (edited-as f e) (bytes-as f (kindOf e) w)
 
 -- ---- numbers
 
--- the yes/no byte's 2 comes first
+-- where each number is given, and by which rule
 port-rules : (la lb base count n : ℕ) → PortNumbers la lb base count n
     → Refuses (by 2 ((la ≢ 4096) ⊎ (lb ≢ 4096)) ∷ by 10 ((0 < count) × (65535 < base + count - 1)) ∷ []) n
 port-rules la lb base count n p =
@@ -130,6 +130,7 @@ msr-rules len m n p =
     ))
     (λ x. inl (x, p .is-2 .1 x))
 
+-- the yes/no byte's 2 comes before these
 ports-numbers : (f : Frames) (base count v : ℕ) → Refuses (rules (lengthsOf f) (setIoInterceptOfRange base count v)) (portCall (f .a) (f .b) base count v .refusal)
 unfolding portCall
 ports-numbers f base count v =

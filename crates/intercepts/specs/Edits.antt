@@ -42,12 +42,14 @@ pub record Edited : Type 0 where
   pub refusal : ℕ
   pub frames : Frames
 
+-- an edit of ports leaves the MSR bitmaps, and one of MSRs the I/O bitmaps
 abbrev pub portsEdited : List ℕ → PortEdit → Edited
 portsEdited msr e = record { refusal = e .refusal; frames = record { a = e .a; b = e .b; msr = msr } }
 
 abbrev pub msrsEdited : List ℕ → List ℕ → MsrEdit → Edited
 msrsEdited a b e = record { refusal = e .refusal; frames = record { a = a; b = b; msr = e .frame } }
 
+-- by the definition that the exported function's contract cites
 abbrev pub edited : Frames → Edit → Edited
 edited f (setIoInterceptOfRange base count v) = portsEdited (f .msr) (portCall (f .a) (f .b) base count v)
 edited f (setReadIntercept m v) = msrsEdited (f .a) (f .b) (msrCall reads (f .msr) m v)

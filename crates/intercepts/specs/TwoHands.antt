@@ -34,7 +34,7 @@ pub data Shuffle : List Edit → List Edit → List Edit → Type 0 where
 
 -- ---- the numbers
 
--- by which an edit is refused, from its arguments and the lengths of A, B and MSR alone
+-- by which an edit is refused (document 01, "The operations and their numbers"), from its arguments and the lengths of A, B and MSR alone
 abbrev pub msrRules : ℕ → ℕ → ℕ → List Rule
 msrRules len m v = by 2 (1 < v) ∷ by 2 (len ≢ 4096) ∷ by 11 (IsMsr m → ⊥) ∷ []
 
@@ -51,14 +51,19 @@ rules l (setMsrInterceptOfRange m v) = msrRules (l .2) m v
 abbrev pub Whole : Frames → Type 0
 Whole f = lengthsOf f ≡ (4096, 4096, 4096)
 
+-- they are frames of bytes
 abbrev pub Bytes : Frames → Type 0
 Bytes f = Below 256 (f .a) × Below 256 (f .b) × Below 256 (f .msr)
 
--- which of the 98,304 bits is the item's: ports in A and then B (SDM 3C, 25.6.4); reads of low and of high MSRs, writes of low and of high ones (25.6.9)
+-- low MSRs, and then high ones
+abbrev pub msrPlace : ℕ → ℕ
+msrPlace m = cond (ltb m 0x2000) m (0x2000 + (m - 0xC000_0000))
+
+-- which of the 98,304 bits is the item's: ports in A and then B (SDM 3C, 25.6.4); reads of MSRs, and then writes (25.6.9)
 abbrev pub place : Item → ℕ
 place (port p) = p
-place (access Read m) = 0x1_0000 + cond (ltb m 0x2000) m (0x2000 + (m - 0xC000_0000))
-place (access Write m) = 0x1_4000 + cond (ltb m 0x2000) m (0x2000 + (m - 0xC000_0000))
+place (access Read m) = 0x1_0000 + msrPlace m
+place (access Write m) = 0x1_4000 + msrPlace m
 
 -- bit n is that of an item
 pub record HasItem (n : ℕ) : Type 0 where
@@ -68,10 +73,11 @@ pub record HasItem (n : ℕ) : Type 0 where
 
 -- ---- setup
 
+-- the frames that a call leaves
 abbrev pub leftBy : FramesCall → Frames
 leftBy c = record { a = c .a; b = c .b; msr = c .msr }
 
--- what setup adds: the port by which a guest stops QEMU, IA32_UMWAIT_CONTROL, and the first 64 MSRs of the x2APIC
+-- what setup adds (document 01, "Setup"): the port by which a guest stops QEMU, IA32_UMWAIT_CONTROL, and the first 64 MSRs of the x2APIC
 abbrev pub added : Item → Bool
 added (port p) = eqb p 0x604
 added (access x m) = eqb m 0xE1 || (leb 0x800 m && leb m 0x83F)

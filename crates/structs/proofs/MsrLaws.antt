@@ -259,7 +259,7 @@ module _ (xs : List ℕ) (base count : ℕ) (accesses : List Access) (v : Bool) 
       go true = length-setMsrs xs base count accesses v
       go false = refl
 
-  -- and bytes
+  -- bytes stay bytes
   pub msr-below : Below 256 xs → Below 256 (editMsrs xs base count accesses v .frame)
   unfolding editMsrs
   msr-below b = go (eqb (msrRefusal (length xs) base (base + count)) 0)

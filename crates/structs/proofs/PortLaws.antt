@@ -155,7 +155,7 @@ module _ (a b : List ℕ) (base count : ℕ) (v : Bool) where
   unfolding editPorts
   port-length-b = length-after (record { a = a; b = b }) base count v .1
 
-  -- and bytes
+  -- bytes stay bytes
   pub port-below : Below 256 a → Below 256 b → Below 256 (editPorts a b base count v .a) × Below 256 (editPorts a b base count v .b)
   unfolding editPorts
   port-below = below-after (record { a = a; b = b }) base count v

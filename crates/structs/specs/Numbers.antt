@@ -16,7 +16,7 @@ Low base count = base + count ≤ 0x2000
 abbrev pub High : ℕ → ℕ → Type 0
 High base count = (0xC000_0000 ≤ base) × (base + count ≤ 0xC000_2000)
 
--- what has a bit in a frame: a port, and an MSR of one of the two ranges
+-- what has a bit in a frame: a port (SDM 3C, 25.6.4), and an MSR of one of the two ranges (25.6.9)
 abbrev pub IsPort : ℕ → Type 0
 IsPort n = n ≤ 0xFFFF
 

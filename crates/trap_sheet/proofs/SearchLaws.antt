@@ -1,6 +1,6 @@
 -- A search passes whole bytes, and no bit that it looks for. Assumes nothing.
-use mathlib.Core.Path.{_≡_, refl, ap, _∙_}
-use mathlib.Core.Bool.{Bool, true, false, not, _&&_}
+use mathlib.Core.Path.{_≡_, ap, _∙_}
+use mathlib.Core.Bool.{Bool, true, false, not}
 use mathlib.Core.List.{List, _++_}
 use mathlib.Core.Logic.{dite}
 use Prim.Native.Nat.{ℕ, zero, suc, _+_, _-_, _*_, _/_, _%_, _^_, _≤_, _<_}
@@ -10,24 +10,18 @@ use borrow.Author.Tests.{eq-eqb, ne-eqb, eqb-true}
 use lib.Dec.{eqb}
 use lib.ListN.{length, getD, length-append}
 use Rattle.bits.specs.Words.{flag}
+use Rattle.bits.proofs.Tells.{both-true}
 use Rattle.structs.specs.Bitmap.{fullByte, bitAt}
 use Rattle.structs.proofs.BitmapLaws.{bitAt-first, bitAt-second, bit-fullByte}
 use Rattle.trap_sheet.specs.Search.{allAre, Passed, Next}
 
 -- ---- bytes that are all the same
 
-both : (s t : Bool) → (s && t) ≡ true → (s ≡ true) × (t ≡ true)
-both true t e = (refl, e)
-both false t e = absurd-bool e
-  where
-    absurd-bool : {A : Type 0} → _≡_ {A = Bool} false true → A
-    absurd-bool f = let o : _≡_ {A = ℕ} 0 1 = cc in absurd (omega arith)
-
 each-is : (xs : List ℕ) (i x k : ℕ) → allAre xs i x k ≡ true → (j : ℕ) → i ≤ j → j < i + k → getD xs j 0 ≡ x
 unfolding allAre
 each-is xs i x zero e j h l = absurd (omega arith)
 each-is xs i x (suc k) e j h l =
-    let b = both (allAre xs i x k) (eqb (getD xs (i + k) 0) x) e in
+    let b = both-true (allAre xs i x k) (eqb (getD xs (i + k) 0) x) e in
     dite (ℕ-discrete j (i + k))
     (λ q. rw q (eqb-true (getD xs (i + k) 0) x (b .1)))
     (λ d. each-is xs i x k (b .0) j h (omega arith))

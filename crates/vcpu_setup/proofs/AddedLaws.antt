@@ -11,7 +11,7 @@ use Rattle.structs.specs.declared.Access.{Access}
 use Rattle.structs.specs.declared.Access.the-variants.{Read, Write}
 use Rattle.structs.specs.Bitmap.{inRange}
 use Rattle.structs.specs.Frames.{portIntercept, msrIntercept, editPorts, editMsrs, covered, among}
-use Rattle.structs.specs.Numbers.{PortNumbers, MsrNumbers, IsMsr}
+use Rattle.structs.specs.Numbers.{IsMsr}
 use Rattle.structs.proofs.BitmapLaws.{range-of-one}
 use Rattle.structs.proofs.PortLaws.{port-numbers, port-length-a, port-length-b, port-edited}
 use Rattle.structs.proofs.MsrLaws.{msr-numbers, msr-length, msr-edited}

@@ -1,24 +1,19 @@
 -- What meets the contract of an exported function is the step of a list. Assumes nothing.
 use Prim.Native.Nat.{ℕ}
 use mathlib.Core.Path.{◌≡◌, refl, sym, ap, ◌∙◌, subst}
-use mathlib.Core.Bool.{Bool, true, false, cond, not, ◌&&◌}
+use mathlib.Core.Bool.{true, false, not}
 use mathlib.Core.List.{List}
 use lib.Dec.{eqb}
 use lib.ListN.{length}
 use borrow.Author.Tests.{eqb-true, not-false, eq-eqb}
 use Rattle.bits.proofs.Tells.{cond_all}
 use Rattle.record.specs.Record as Record
-use Rattle.record.specs.Codec.{accepted_of, Encoded, encoded}
-use Rattle.old_record.specs.Old as Old
-use Rattle.old_record.specs.Old.{old_accepted_of, upgraded, downgraded, upgrade_call, fits_old, downgrade_call}
 use Rattle.record.proofs.RoundTrip.{faithful}
 use Rattle.call_specs.specs.Records.{EntryCall, FramesCall, frames_call, no_intercepts, new_call}
 use Rattle.vcpu_events.specs.declared.Injection.TheVariants.{Empty}
 use Rattle.call_specs.specs.ReportCall.{ReportCall}
-use Rattle.calls.specs.Reference.{Call, upgrade, downgrade}
-use Rattle.calls.specs.Calls.{plain, framed, converted, step_of, new_record, is_refused}
-use Rattle.calls.specs.CallContracts.{NewLengths, Converts, Contracts}
-use Rattle.calls.proofs.Choices.{impossible}
+use Rattle.calls.specs.Calls.{plain, framed, new_record, is_refused}
+use Rattle.calls.specs.CallContracts.{NewLengths, Contracts}
 use Rattle.calls.proofs.Records.{setup_left, entry_results, report_results}
 
 module _ (bytes x y z : List ℕ) where
@@ -41,35 +36,6 @@ module _ (bytes x y z : List ℕ) where
 
       same : {m n : ℕ} → not (eqb m n) ≡ false → m ≡ n
       same {m} {n} e = eqb-true m n (not-false _ e)
-
--- a refused conversion leaves the buffer
-upgrade_left : (b buffer : List ℕ) → is_refused (upgrade_call b buffer).refusal ≡ true → (upgrade_call b buffer).bytes ≡ buffer
-unfolding upgrade_call
-upgrade_left b buffer = go (old_accepted_of b && eqb (length buffer) Record.LENGTH)
-  where
-    go : (t : Bool) → is_refused (cond t (encoded 0 (upgraded b)) (encoded 2 buffer)).refusal ≡ true → (cond t (encoded 0 (upgraded b)) (encoded 2 buffer)).bytes ≡ buffer
-    go true e = impossible e
-    go false e = refl
-
-downgrade_left : (b buffer : List ℕ) → is_refused (downgrade_call b buffer).refusal ≡ true → (downgrade_call b buffer).bytes ≡ buffer
-unfolding downgrade_call
-downgrade_left b buffer = go (accepted_of b && eqb (length buffer) Old.LENGTH) (fits_old b)
-  where
-    made : Bool → Bool → Encoded
-    made t u = cond t (cond u (encoded 0 (downgraded b)) (encoded 27 buffer)) (encoded 2 buffer)
-
-    go : (t u : Bool) → is_refused (made t u).refusal ≡ true → (made t u).bytes ≡ buffer
-    go true true e = impossible e
-    go true false e = refl
-    go false u e = refl
-
-converts : (b : List ℕ) (c : Call) (buffer : List ℕ) (r : ℕ) (x : List ℕ) (o : Encoded) → step_of b c ≡ converted b o → encoded r x ≡ o
-    → (is_refused o.refusal ≡ true → o.bytes ≡ buffer) → Converts b c buffer r x
-converts b c buffer r x o is e kept =
-    record {
-      step = is ∙ ap (converted b) (sym e);
-      left = λ f. ap (λ (y : Encoded). y.bytes) e ∙ kept (subst (λ (n : ℕ). is_refused n ≡ true) (ap (λ (y : Encoded). y.refusal) e) f);
-    }
 
 pub contracts : (b : List ℕ) → Contracts b
 contracts b =
@@ -107,6 +73,4 @@ contracts b =
       apic = λ value r after c. ap plain (sym c.answer);
       field = λ encoding value r after c. ap plain (sym c.answer);
       register = λ index value r after c. ap plain (sym c.answer);
-      upgrades = λ buffer r x c. converts b (upgrade buffer) buffer r x (upgrade_call b buffer) refl c (upgrade_left b buffer);
-      downgrades = λ buffer r x c. converts b (downgrade buffer) buffer r x (downgrade_call b buffer) refl c (downgrade_left b buffer);
     }

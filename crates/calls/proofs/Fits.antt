@@ -49,13 +49,12 @@ use Rattle.blocks.specs.ReportBlock as Report
 use Rattle.blocks.specs.ReportBlock.{report_of}
 use Rattle.call_specs.specs.Records.{queue_step}
 use Rattle.calls.proofs.Keeps.{keeps_queue_step, keeps_interrupt, keeps_field, keeps_register, keeps_apic, keeps_entry}
-use Rattle.calls.specs.Reference.{Call, setup, queue_event, inject_interrupt, entry, exit_report, apic_value, field_write, register_write, upgrade, downgrade, WellTyped, takes_old}
+use Rattle.calls.specs.Reference.{Call, setup, queue_event, inject_interrupt, entry, exit_report, apic_value, field_write, register_write, WellTyped}
 use Rattle.record_edits.proofs.Fits.{numbers_set, numbers_shifted, reg_fits, put_fits}
 use Rattle.calls.proofs.Fields.{value_fits, applied_fits}
 use Rattle.calls.proofs.SetupFits.{writes_fit, capabilities_fit_lem, supported_fits}
 use Rattle.calls.proofs.ReportFits.{block_fits, report_fits}
-use Rattle.calls.specs.Calls.{Outcome}
-use Rattle.calls.proofs.Sessions.{has_buffers, next, Standing, differ, stand_step, Sound}
+use Rattle.calls.proofs.Sessions.{has_buffers, next, Sound}
 
 -- ---- the parts of an entry
 
@@ -245,8 +244,6 @@ fits s (exit_report block) w h =
 fits s (apic_value value) w h = apic_fits s h value w
 fits s (field_write encoding value) w h = field_fits s h encoding value
 fits s (register_write index value) w h = register_fits s h index value w.1
-fits s (upgrade buffer) w h = h.fits
-fits s (downgrade buffer) w h = h.fits
 
 keeps : (s : Session) (c : Call) → Lawful s → Lawful (next s c)
 keeps s (setup block a b msr) l =
@@ -259,12 +256,6 @@ keeps s (exit_report block) l =
 keeps s (apic_value value) l = keeps_apic value s l
 keeps s (field_write encoding value) l = keeps_field encoding value s l
 keeps s (register_write index value) l = keeps_register index value s l
-keeps s (upgrade buffer) l = l
-keeps s (downgrade buffer) l = l
 
 pub sound_step : (s : Session) (c : Call) → WellTyped c → Sound s → Sound (next s c)
 sound_step s c w h = record { fits = fits s c w h; lawful = keeps s c h.lawful }
-
-pub sound_stand : (x : Standing) (c : Call) → WellTyped c → Sound x.session → Sound (stand_step x c).state.session
-sound_stand x c w h =
-    cond_all (λ (o : Outcome Standing). Sound o.state.session) (differ x.old (takes_old c)) _ _ (λ _. h) (λ _. sound_step x.session c w h)

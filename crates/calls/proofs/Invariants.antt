@@ -19,14 +19,19 @@ use Rattle.vcpu_exit.specs.declared.Report.{Report}
 use Rattle.vcpu_report.proofs.Known.{invalid}
 use Rattle.blocks.specs.ReportBlock.{report_of}
 use Rattle.calls.specs.Moves.{Move, fails, exits, tallied}
-use Rattle.calls.specs.Reference.{Call, setup, queue_event, inject_interrupt, entry, exit_report, apic_value, field_write, register_write, upgrade, downgrade, Event, entry_move, answer_on, is_held, awaits_value, Words, in_phase, at_exit, words_by, basic_reason, edx_eax, Xcr0Allowed, exit_rules, choose, Reference, move_on, accept, reference_step, reference_after, Fed, own_rules}
+use Rattle.calls.specs.Reference.{Call, setup, queue_event, inject_interrupt, entry, exit_report, apic_value, field_write, register_write, Event, entry_move, answer_on, is_held, awaits_value, Words, in_phase, at_exit, words_by, basic_reason, edx_eax, Xcr0Allowed, exit_rules, choose, Reference, move_on, accept, reference_step, reference_after, Fed, own_rules}
 use Rattle.calls.specs.Calls.{writes_field, written}
 use Rattle.calls.specs.DemandThree.{Loadable, accepted_setup, NoSetup, OneSetup}
 use Rattle.calls.proofs.Choices.{choose_no, choose_all}
 use Rattle.calls.proofs.ReportNumbers.{allowed_tells}
-use Rattle.calls.proofs.Whole.{passed, Follows}
+use Rattle.calls.proofs.Whole.{Follows}
 
 -- ---- what acceptance says of the phase
+
+-- the first rule, of a number that is not 0, does not apply to an accepted call
+passed : {P Q : Type 0} (n : ℕ) → (n ≡ 0 → ⊥) → (P × (0 ≡ n)) ⊎ Q → Q
+passed n some (inl x) = absurd (some (sym x.1))
+passed n some (inr x) = x
 
 module _ (p : Reference) where
   setup_fresh : (block a b msr : List ℕ) → Refuses (own_rules p (setup block a b msr)) 0 → (p.words.phase ≢ 0) → ⊥
@@ -56,8 +61,6 @@ clear_accepted p (exit_report block) n w k = cond_all Clear (bit 31 (report_of b
 clear_accepted p (apic_value value) n w k = λ x y. k (λ e. apic_waits p value w (λ z. omega arith)) (λ e. apic_waits p value w (λ z. omega arith))
 clear_accepted p (field_write encoding value) n w k = λ x y. ap (bit 31) (choose_no (ℕ_discrete encoding 0x4016) _ _ (eqb-false encoding 0x4016 n)) ∙ k x y
 clear_accepted p (register_write index value) n w k = k
-clear_accepted p (upgrade buffer) n w k = k
-clear_accepted p (downgrade buffer) n w k = k
 
 clear_step : (p : Reference) (c : Call) (r : Bool) → cond r false (writes_field 0x4016 c) ≡ false → (r ≡ false → Refuses (own_rules p c) 0)
     → Clear p.words → Clear (reference_step p c r).words
@@ -98,8 +101,6 @@ launched_accepted p (exit_report block) k = go (bit 31 (report_of block).reason)
 launched_accepted p (apic_value value) k = k
 launched_accepted p (field_write encoding value) k = k
 launched_accepted p (register_write index value) k = k
-launched_accepted p (upgrade buffer) k = k
-launched_accepted p (downgrade buffer) k = k
 
 launched_step : (p : Reference) (c : Call) (r : Bool) → Launched p → Launched (reference_step p c r)
 launched_step p c true k = k
@@ -122,8 +123,6 @@ phase_accepted p (exit_report block) n =
 phase_accepted p (apic_value value) n = λ e. omega arith
 phase_accepted p (field_write encoding value) n = n
 phase_accepted p (register_write index value) n = n
-phase_accepted p (upgrade buffer) n = n
-phase_accepted p (downgrade buffer) n = n
 
 pub phase_step : (p : Reference) (c : Call) (r : Bool) → p.words.phase ≢ 0 → (reference_step p c r).words.phase ≢ 0
 phase_step p c true n = n
@@ -195,8 +194,6 @@ set_up_first p (exit_report block) false ls e w f then = absurd (report_running 
 set_up_first p (apic_value value) false ls e w f then = absurd (apic_waits p value (w refl) (λ z. omega arith))
 set_up_first p (field_write encoding value) false ls e w f then = before_it _ _ ls (apart _ (λ _ _ _ _ q. cc)) (then e)
 set_up_first p (register_write index value) false ls e w f then = before_it _ _ ls (apart _ (λ _ _ _ _ q. cc)) (then e)
-set_up_first p (upgrade buffer) false ls e w f then = before_it _ _ ls (apart _ (λ _ _ _ _ q. cc)) (then e)
-set_up_first p (downgrade buffer) false ls e w f then = before_it _ _ ls (apart _ (λ _ _ _ _ q. cc)) (then e)
 
 set_up_after : (p : Reference) (ls : List Fed) → Follows p ls → p.words.phase ≡ 0 → SetUp (reference_after p ls).words.phase ls
 set_up_after p [] f e = inl (e, λ block a c msr m. Memᴰ.not-nil m)
@@ -252,8 +249,6 @@ loads_accepted p (exit_report block) w k = inr (go (bit 31 (report_of block).rea
 loads_accepted p (apic_value value) w k = inr (not_fresh p.words (λ e. apic_waits p value w (λ z. omega arith)) k)
 loads_accepted p (field_write encoding value) w k = k
 loads_accepted p (register_write index value) w k = k
-loads_accepted p (upgrade buffer) w k = k
-loads_accepted p (downgrade buffer) w k = k
 
 loads_step : (p : Reference) (c : Call) (r : Bool) → (r ≡ false → Refuses (own_rules p c) 0) → Loads p.words → Loads (reference_step p c r).words
 loads_step p c true w k = k

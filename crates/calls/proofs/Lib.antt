@@ -18,6 +18,5 @@ pub mod Invariants
 pub mod Permit
 pub mod Records
 pub mod DemandThree
-pub mod From
 pub mod Contracts
 pub mod CapabilityWords

@@ -54,19 +54,19 @@ use Rattle.blocks.specs.ReportBlock as Report
 use Rattle.blocks.specs.ReportBlock.{report_of}
 use Rattle.vcpu_report.proofs.ReportLaws.{report_laws}
 use Rattle.calls.specs.Reference as Reference
-use Rattle.calls.specs.Reference.{Call, setup, queue_event, inject_interrupt, entry, exit_report, apic_value, field_write, register_write, upgrade, downgrade, WellTyped, AllWellTyped, Limits, limits_of, Reference, Fed, takes_old}
+use Rattle.calls.specs.Reference.{Call, setup, queue_event, inject_interrupt, entry, exit_report, apic_value, field_write, register_write, WellTyped, AllWellTyped, Limits, limits_of, Reference, Fed}
 use Rattle.calls.specs.Moves.{begun}
-use Rattle.calls.specs.Calls.{Outcome, limits_in, is_refused, fed, writes_field, written}
+use Rattle.calls.specs.Calls.{limits_in, is_refused, fed, writes_field, written}
 use Rattle.calls.specs.DemandThree as Demand
 use Rattle.calls.specs.DemandThree.{Unwritten, Permits}
 use Rattle.calls.proofs.RawWrites.{other_field}
 use Rattle.calls.proofs.Fields.{stack_keeps, injection_keeps}
-use Rattle.calls.proofs.Sessions.{has_buffers, session_step, next, Standing, differ, stands, stand_step, stands_after, stand_logged, stand_log, Sound, sound_sized, view_of}
+use Rattle.calls.proofs.Sessions.{has_buffers, next, session_after, session_logged, session_log, Sound, sound_sized, view_of}
 use Rattle.calls.proofs.SetupNumbers.{consistent_of, same_limits}
 use Rattle.calls.proofs.SetupFits.{typed}
 use Rattle.calls.proofs.ReportFits.{FitsReport, block_fits}
-use Rattle.calls.proofs.Fits.{sound_stand}
-use Rattle.calls.proofs.Steps.{stand, step, block_msrs}
+use Rattle.calls.proofs.Fits.{sound_step}
+use Rattle.calls.proofs.Steps.{step, block_msrs}
 use Rattle.calls.proofs.Whole.{accepts}
 use Rattle.calls.proofs.Invariants.{phase_step}
 use Rattle.vcpu_report.specs.Invariant.{Consistent, AllPermitted, SoundFields}
@@ -164,7 +164,7 @@ module _ (c : Capabilities) where
 
   -- a call on a session that is set up
   step_kept : (s : Session) (d : Call) → WellTyped d → s.progress.phase ≢ 0
-      → ((x : ℕ) → Memᴰ x Demand.judged_fields → cond (is_refused (session_step s d).refusal) false (writes_field x d) ≡ false) → Kept c s → Kept c (next s d)
+      → ((x : ℕ) → Memᴰ x Demand.judged_fields → cond (is_refused (session_logged s d).refusal) false (writes_field x d) ≡ false) → Kept c s → Kept c (next s d)
   unfolding queue_step Queue.inject_interrupt Access.apic_value Access.write_field Access.set_register vmcs_write with_reg_of_index setup_of
   step_kept s (setup block a b msr) w f n k =
       let x = arguments_of block in
@@ -200,20 +200,6 @@ module _ (c : Capabilities) where
     where
       Q : RegWritten → Type 0
       Q a = Leaves (registers_written s a)
-  step_kept s (upgrade buffer) w f n k = k
-  step_kept s (downgrade buffer) w f n k = k
-
-  -- on a record of either length
-  stand_kept : (x : Standing) (d : Call) → WellTyped d → x.session.progress.phase ≢ 0
-      → ((e : ℕ) → Memᴰ e Demand.judged_fields → cond (is_refused (stand_step x d).refusal) false (writes_field e d) ≡ false) → Kept c x.session → Kept c (stand_step x d).state.session
-  stand_kept x d w f n k = go (differ x.old (takes_old d)) n
-    where
-      go : (t : Bool)
-          → ((e : ℕ) → Memᴰ e Demand.judged_fields
-          → cond (is_refused (cond t (record { refusal = 2; answer = Empty; resumed = false; state = x }) (stands x.old d (session_step x.session d))).refusal) false (writes_field e d) ≡ false)
-          → Kept c (cond t (record { refusal = 2; answer = Empty; resumed = false; state = x }) (stands x.old d (session_step x.session d))).state.session
-      go true n = k
-      go false n = step_kept x.session d w f n k
 
 -- ---- a list of calls
 
@@ -226,17 +212,17 @@ unwritten_at [] ls u x m = absurd (Memᴰ.not-nil m)
 unwritten_at (y ∷ ys) ls u x m =
     elim (Memᴰ.cases_cons m) [ inl e ↦ subst (λ (z : ℕ). written z ls ≡ false) (sym e) u.0 | inr t ↦ unwritten_at ys ls u.1 x t ]
 
-split_free : (x : Standing) (c : Call) (cs : List Call) → Free (fed (stand_log x (c ∷ cs))) → (e : ℕ) → Memᴰ e Demand.judged_fields
-    → (cond (is_refused (stand_logged x c).refusal) false (writes_field e c) ≡ false) × (written e (fed (stand_log (stand_step x c).state cs)) ≡ false)
-split_free x c cs n e m = both_false (cond (is_refused (stand_logged x c).refusal) false (writes_field e c)) (written e (fed (stand_log (stand_step x c).state cs))) (n e m)
+split_free : (s : Session) (c : Call) (cs : List Call) → Free (fed (session_log s (c ∷ cs))) → (x : ℕ) → Memᴰ x Demand.judged_fields
+    → (cond (is_refused (session_logged s c).refusal) false (writes_field x c) ≡ false) × (written x (fed (session_log (next s c) cs)) ≡ false)
+split_free s c cs n x m = both_false (cond (is_refused (session_logged s c).refusal) false (writes_field x c)) (written x (fed (session_log (next s c) cs))) (n x m)
 
-kept_after : (p : Capabilities) (x : Standing) (cs : List Call) → AllWellTyped cs → Sound x.session → x.session.progress.phase ≢ 0 → Free (fed (stand_log x cs)) → Kept p x.session
-    → Kept p (stands_after x cs).session
-kept_after p x [] w h f n k = k
-kept_after p x (c ∷ cs) w h f n k =
-    kept_after p (stand_step x c).state cs w.1 (sound_stand x c w.0 h)
-    (λ e. phase_step (view_of begun x.session) c (is_refused (stand_logged x c).refusal) f (sym (ap (λ (r : Reference). r.words.phase) (stand begun x c w.0 h).state) ∙ e))
-    (λ e m. (split_free x c cs n e m).1) (stand_kept p x c w.0 f (λ e m. (split_free x c cs n e m).0) k)
+kept_after : (p : Capabilities) (s : Session) (cs : List Call) → AllWellTyped cs → Sound s → s.progress.phase ≢ 0 → Free (fed (session_log s cs)) → Kept p s
+    → Kept p (session_after s cs)
+kept_after p s [] w h f n k = k
+kept_after p s (c ∷ cs) w h f n k =
+    kept_after p (next s c) cs w.1 (sound_step s c w.0 h)
+    (λ e. phase_step (view_of begun s) c (is_refused (session_logged s c).refusal) f (sym (ap (λ (r : Reference). r.words.phase) (step begun s c w.0 h).state) ∙ e))
+    (λ x m. (split_free s c cs n x m).1) (step_kept p s c w.0 f (λ x m. (split_free s c cs n x m).0) k)
 
 -- ---- an accepted setup
 
@@ -284,7 +270,7 @@ set_up_kept s t x ok u =
     }
 
 setup_kept : (s : Session) (block a b msr : List ℕ) → WellTyped (setup block a b msr) → Sound s
-    → is_refused (session_step s (setup block a b msr)).refusal ≡ false
+    → is_refused (session_logged s (setup block a b msr)).refusal ≡ false
     → Kept (capabilities_of (msrs_of block)) (next s (setup block a b msr)) × ((next s (setup block a b msr)).progress.phase ≢ 0)
 setup_kept s block a b msr w h =
     cond_all P (has_buffers block a b msr) _ _
@@ -304,25 +290,18 @@ setup_kept s block a b msr w h =
     P : Answered → Type 0
     P r = is_refused r.refusal ≡ false → Kept (capabilities_of (msrs_of block)) r.session × (r.session.progress.phase ≢ 0)
 
-set_up_stands : (x : Standing) (block a b msr : List ℕ) → WellTyped (setup block a b msr) → Sound x.session
-    → is_refused (stand_step x (setup block a b msr)).refusal ≡ false
-    → Kept (capabilities_of (msrs_of block)) (stand_step x (setup block a b msr)).state.session × ((stand_step x (setup block a b msr)).state.session.progress.phase ≢ 0)
-set_up_stands x block a b msr w h =
-    cond_all (λ (o : Outcome Standing). is_refused o.refusal ≡ false → Kept (capabilities_of (msrs_of block)) o.state.session × (o.state.session.progress.phase ≢ 0))
-    (differ x.old false) _ _ (λ _ r. absurd (true≢false r)) (λ _ r. setup_kept x.session block a b msr w h r)
-
-pub permits_since : (block a b msr : List ℕ) (x : Standing) (cs : List Call) → AllWellTyped cs → Sound x.session → Free (fed (stand_log x cs))
-    → Memᴰ (record { call = setup block a b msr; refused = false }) (fed (stand_log x cs)) → Kept (capabilities_of (msrs_of block)) (stands_after x cs).session
-permits_since block a b msr x [] w h n m = absurd (Memᴰ.not-nil m)
-permits_since block a b msr x (c ∷ cs) w h n m =
-    let k = sound_stand x c w.0 h in
+pub permits_since : (block a b msr : List ℕ) (s : Session) (cs : List Call) → AllWellTyped cs → Sound s → Free (fed (session_log s cs))
+    → Memᴰ (record { call = setup block a b msr; refused = false }) (fed (session_log s cs)) → Kept (capabilities_of (msrs_of block)) (session_after s cs)
+permits_since block a b msr s [] w h n m = absurd (Memᴰ.not-nil m)
+permits_since block a b msr s (c ∷ cs) w h n m =
+    let k = sound_step s c w.0 h in
     elim (Memᴰ.cases_cons m) [
       | inl e ↦
-          (let p = subst (λ (d : Call). WellTyped d → is_refused (stand_step x d).refusal ≡ false → Kept (capabilities_of (msrs_of block)) (stand_step x d).state.session ×
-          ((stand_step x d).state.session.progress.phase ≢ 0))
-          (ap (λ (l : Fed). l.call) e) (λ u r. set_up_stands x block a b msr u h r) w.0 (sym (ap (λ (l : Fed). l.refused) e)) in
-          kept_after (capabilities_of (msrs_of block)) (stand_step x c).state cs w.1 k p.1 (λ e m. (split_free x c cs n e m).1) p.0)
-      | inr t ↦ permits_since block a b msr (stand_step x c).state cs w.1 k (λ e m. (split_free x c cs n e m).1) t
+          (let p = subst (λ (d : Call). WellTyped d → is_refused (session_logged s d).refusal ≡ false → Kept (capabilities_of (msrs_of block)) (next s d) ×
+          ((next s d).progress.phase ≢ 0))
+          (ap (λ (l : Fed). l.call) e) (λ u r. setup_kept s block a b msr u h r) w.0 (sym (ap (λ (l : Fed). l.refused) e)) in
+          kept_after (capabilities_of (msrs_of block)) (next s c) cs w.1 k p.1 (λ x m. (split_free s c cs n x m).1) p.0)
+      | inr t ↦ permits_since block a b msr (next s c) cs w.1 k (λ x m. (split_free s c cs n x m).1) t
     ]
 
 -- ---- what is claimed

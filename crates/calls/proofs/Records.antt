@@ -1,14 +1,13 @@
 -- A call on a record is the call on its session: so the lists on records go as those on sessions do. Assumes nothing.
-use Prim.Native.Nat.{ℕ, zero-le, ◌^◌, ◌<◌}
+use Prim.Native.Nat.{ℕ, zero-le}
 use mathlib.Core.Path.{◌≡◌, refl, sym, ap, ◌∙◌, subst}
-use mathlib.Core.Bool.{Bool, true, false, cond, not, ◌&&◌, true≢false}
+use mathlib.Core.Bool.{Bool, true, false, cond, not, true≢false}
 use mathlib.Core.List.{List, [], ◌∷◌}
-use lib.ListN.{length, drop, replicate}
-use lib.Dec.{eqb, ltb, lit<}
-use borrow.Author.Tests.{eqb-true, ltb-true}
+use lib.ListN.{replicate}
+use lib.Dec.{eqb, lit<}
+use borrow.Author.Tests.{eqb-true}
 use Rattle.bits.specs.Words.{flag}
-use Rattle.bits.specs.LittleEndian.{little_endian}
-use Rattle.bits.proofs.Tells.{both_true, cond_all}
+use Rattle.bits.proofs.Tells.{cond_all}
 use Rattle.vcpu_session.specs.Session.{LAST_ENTRY, new_session, is_unlawful}
 use Rattle.vcpu_session.specs.declared.Session.{Session}
 use Rattle.vcpu_events.specs.Queue as Queue
@@ -23,12 +22,7 @@ use Rattle.vcpu_events.specs.Access as Access
 use Rattle.vcpu_setup.specs.Bitmaps.{io_bitmap_set, msr_bitmap_set}
 use Rattle.vcpu_setup.specs.Setup.{setup_of}
 use Rattle.blocks.specs.SetupBlock.{arguments_of}
-use Rattle.record.specs.Record as Record
-use Rattle.record.specs.Codec.{session_of, encode_of, accepted_of, Encoded, encoded}
-use Rattle.record.proofs.Accepted.{whole}
-use Rattle.old_record.specs.Old as Old
-use Rattle.old_record.specs.Old.{old_accepted_of, upgraded, downgraded, upgrade_call, fits_old, downgrade_call}
-use Rattle.old_record.proofs.Conversions.{Small, accepted_up, long_down, accepted_down, small_down, kept_down, long_old, not_new, not_old, in_form_new, in_form_old}
+use Rattle.record.specs.Codec.{session_of, encode_of, accepted_of, Encoded}
 use Rattle.record.specs.Fitting.{Fitting}
 use Rattle.record.specs.declared.Decoded.{Decoded}
 use Rattle.record.proofs.RoundTrip.{lawful_accepted, accepted_decoded, refused_decoded, decode_encode, faithful}
@@ -40,12 +34,12 @@ use Rattle.blocks.specs.ReportBlock as Report
 use Rattle.blocks.specs.ReportBlock.{report_of}
 use Rattle.call_specs.specs.ReportCall.{ReportCall, report_answer, report_accepts, report_call}
 use Rattle.call_specs.specs.SetupCall.{setup_accepts, setup_call}
-use Rattle.calls.specs.Reference.{Call, setup, queue_event, inject_interrupt, entry, exit_report, apic_value, field_write, register_write, upgrade, downgrade, WellTyped, AllWellTyped}
+use Rattle.calls.specs.Reference.{Call, setup, queue_event, inject_interrupt, entry, exit_report, apic_value, field_write, register_write, WellTyped, AllWellTyped}
 use Rattle.calls.specs.Moves.{begun}
-use Rattle.calls.specs.Calls.{reported, Outcome, plain, framed, numbered, entered, converted, step_of, session_in, waiting_of, new_record, after, history_of, is_refused, answer_number}
+use Rattle.calls.specs.Calls.{reported, Outcome, plain, framed, numbered, entered, step_of, waiting_of, new_record, after, history_of, is_refused, answer_number}
 use Rattle.calls.proofs.Choices.{impossible}
-use Rattle.calls.proofs.Sessions.{has_buffers, left, entering, upgrade_number, downgrade_number, session_step, next, Standing, standing, stands, stand_step, stands_after, stand_log, Sound}
-use Rattle.calls.proofs.Fits.{sound_step, sound_stand}
+use Rattle.calls.proofs.Sessions.{has_buffers, left, entering, session_step, next, session_after, session_log, Sound}
+use Rattle.calls.proofs.Fits.{sound_step}
 use Rattle.calls.proofs.Steps.{step}
 
 -- b is a record, and holds s
@@ -267,194 +261,37 @@ no_launch s stack =
     P : Entered → Type 0
     P a = is_refused a.refusal ≡ true → a.resumed ≡ false
 
--- ---- a record of either length
-
--- b is a record of the length that x says, and holds its session
-pub record Bears (b : List ℕ) (x : Standing) : Type 0 where
-  pub accepted : cond x.old (old_accepted_of b) (accepted_of b) ≡ true
-  pub holds : session_in b ≡ x.session
-  pub small : x.old ≡ true → Small b
-
--- o on the record b goes as p on its session
-pub record Borne (b : List ℕ) (o : Outcome (List ℕ)) (p : Outcome Standing) : Type 0 where
-  pub refusal : o.refusal ≡ p.refusal
-  pub answer : o.answer ≡ p.answer
-  pub resumed : o.resumed ≡ p.resumed
-  pub state : Bears o.state p.state
-  pub unchanged : is_refused o.refusal ≡ true → o.state ≡ b
-
-pub held_new : (b : List ℕ) (s : Session) (old : Bool) → old ≡ false → Holds b s → Bears b (standing s old)
-held_new b s old e m =
-    record {
-      accepted = rw e m.accepted;
-      holds = ap session_of (in_form_new b (whole b m.accepted)) ∙ m.holds;
-      small = λ f. absurd (true≢false (sym f ∙ e));
-    }
-
--- refused by 2, whatever it is
-untaken : (b : List ℕ) (x : Standing) → Bears b x
-    → Borne b (record { refusal = 2; answer = Empty; resumed = false; state = b }) (record { refusal = 2; answer = Empty; resumed = false; state = x })
-untaken b x m = record { refusal = refl; answer = refl; resumed = refl; state = m; unchanged = λ _. refl }
-
--- ---- where the record has the new length
-
-new_stays : (r : Bool) → cond r false false ≡ false
-new_stays true = refl
-new_stays false = refl
-
-module _ (b : List ℕ) (s : Session) (m : Bears b (standing s false)) (h : Sound s) where
-  new_holds : Holds b s
-  new_holds = record { accepted = m.accepted; holds = ap session_of (sym (in_form_new b (whole b m.accepted))) ∙ m.holds }
-
-  lift : {o : Outcome (List ℕ)} {p : Outcome Session} → Carried b o p
-      → Borne b o (record { refusal = p.refusal; answer = p.answer; resumed = p.resumed; state = standing p.state (cond (is_refused p.refusal) false false) })
-  lift {o} {p} k =
-      record {
-        refusal = k.refusal;
-        answer = k.answer;
-        resumed = k.resumed;
-        state = held_new o.state p.state _ (new_stays (is_refused p.refusal)) k.state;
-        unchanged = k.unchanged;
-      }
-
-  entries_same : little_endian 8 (drop Record.ENTRIES b) ≡ s.progress.entries
-  unfolding session_of
-  entries_same = ap (λ (x : Session). x.progress.entries) new_holds.holds
-
-  held_same : little_endian 8 (drop Record.HELD b) ≡ s.progress.held
-  unfolding session_of
-  held_same = ap (λ (x : Session). x.progress.held) new_holds.holds
-
-  downgrade_borne : (buffer : List ℕ) → Borne b (converted b (downgrade_call b buffer)) (stands false (downgrade buffer) (session_step s (downgrade buffer)))
-  unfolding downgrade_call fits_old
-  downgrade_borne buffer =
-      rw (m.accepted, entries_same, held_same)
-      (go (eqb (length buffer) Old.LENGTH) (ltb s.progress.entries (2 ^ 32) && ltb s.progress.held (2 ^ 32)) refl)
-    where
-      go : (t u : Bool) → (ltb s.progress.entries (2 ^ 32) && ltb s.progress.held (2 ^ 32)) ≡ u
-          → Borne b (converted b (cond t (cond u (encoded 0 (downgraded b)) (encoded 27 buffer)) (encoded 2 buffer)))
-          (stands false (downgrade buffer) (left (answered (cond t (cond u 0 27) 2) s)))
-      go true true e =
-          let l = whole b m.accepted in
-          let x : little_endian 8 (drop Record.ENTRIES b) < 2 ^ 32 = rw entries_same (ltb-true s.progress.entries (2 ^ 32) (both_true (ltb s.progress.entries (2 ^ 32)) (ltb s.progress.held (2 ^ 32)) e).0) in
-          let y : little_endian 8 (drop Record.HELD b) < 2 ^ 32 = rw held_same (ltb-true s.progress.held (2 ^ 32) (both_true (ltb s.progress.entries (2 ^ 32)) (ltb s.progress.held (2 ^ 32)) e).1) in
-          record {
-            refusal = refl;
-            answer = refl;
-            resumed = refl;
-            state = record {
-              accepted = accepted_down b l x y ∙ m.accepted;
-              holds = ap session_of (in_form_old (downgraded b) (long_down b l x y)) ∙ kept_down b l x y ∙ new_holds.holds;
-              small = λ _. small_down b l x y;
-            };
-            unchanged = impossible;
-          }
-      go true false e = record { refusal = refl; answer = refl; resumed = refl; state = m; unchanged = λ _. refl }
-      go false u e = record { refusal = refl; answer = refl; resumed = refl; state = m; unchanged = λ _. refl }
-
-  upgrade_refused : (buffer : List ℕ) → converted b (upgrade_call b buffer) ≡ record { refusal = 2; answer = Empty; resumed = false; state = b }
-  unfolding upgrade_call
-  upgrade_refused buffer = rw (not_old b (whole b m.accepted))
-
-  borne_new : (c : Call) → WellTyped c → Borne b (step_of b c) (stand_step (standing s false) c)
-  borne_new (setup block a d msr) w =
-      lift (setup_carried block a d msr b s new_holds (step begun s (setup block a d msr) w h).unchanged (sound_step s (setup block a d msr) w h))
-  borne_new (queue_event vector coded code) w =
-      lift (call_carried (queue_step vector coded code) b s new_holds (step begun s (queue_event vector coded code) w h).unchanged (sound_step s (queue_event vector coded code) w h))
-  borne_new (inject_interrupt vector) w =
-      lift (call_carried (λ t. Queue.inject_interrupt t vector) b s new_holds (step begun s (inject_interrupt vector) w h).unchanged (sound_step s (inject_interrupt vector) w h))
-  borne_new (entry stack) w =
-      let t = step begun s (entry stack) w h in
-      lift (entry_carried stack b s new_holds t.unchanged (λ r. t.answer ∙ rw r) (no_launch s stack) (sound_step s (entry stack) w h))
-  borne_new (exit_report block) w = lift (report_carried block b s new_holds (step begun s (exit_report block) w h).unchanged (sound_step s (exit_report block) w h))
-  borne_new (apic_value value) w =
-      lift (call_carried (λ t. Access.apic_value t value) b s new_holds (step begun s (apic_value value) w h).unchanged (sound_step s (apic_value value) w h))
-  borne_new (field_write encoding value) w =
-      lift (call_carried (λ t. Access.write_field t encoding value) b s new_holds (step begun s (field_write encoding value) w h).unchanged (sound_step s (field_write encoding value) w h))
-  borne_new (register_write index value) w =
-      lift (call_carried (λ t. Access.set_register t index value) b s new_holds (step begun s (register_write index value) w h).unchanged (sound_step s (register_write index value) w h))
-  borne_new (upgrade buffer) w =
-      subst (λ (o : Outcome (List ℕ)). Borne b o (stand_step (standing s false) (upgrade buffer))) (sym (upgrade_refused buffer)) (untaken b (standing s false) m)
-  borne_new (downgrade buffer) w = downgrade_borne buffer
-
--- ---- where it has the old length
-
-module _ (b : List ℕ) (s : Session) (m : Bears b (standing s true)) where
-  long : length b ≡ Old.LENGTH
-  long = long_old b m.accepted
-
-  call_refused : (f : Session → Answered) → call_of f b ≡ encoded 2 b
-  unfolding call_of
-  call_refused f = rw (not_new b long)
-
-  setup_refused : (block a c msr : List ℕ) → setup_call b block a c msr ≡ frames_call 2 b a c msr
-  unfolding setup_call setup_accepts
-  setup_refused block a c msr = rw (not_new b long)
-
-  entry_refused : (stack : ℕ) → entry_call stack b 0 0 ≡ entry_answer 2 b 0 0
-  unfolding entry_call
-  entry_refused stack = rw (not_new b long)
-
-  report_refused : (block : List ℕ) → report_call b block (replicate 8 0) ≡ report_answer 2 b (replicate 8 0)
-  unfolding report_call report_accepts
-  report_refused block = rw (not_new b long)
-
-  downgrade_refused : (buffer : List ℕ) → downgrade_call b buffer ≡ encoded 2 buffer
-  unfolding downgrade_call
-  downgrade_refused buffer = rw (not_new b long)
-
-  upgrade_borne : (buffer : List ℕ) → Borne b (converted b (upgrade_call b buffer)) (stands true (upgrade buffer) (session_step s (upgrade buffer)))
-  unfolding upgrade_call
-  upgrade_borne buffer = rw m.accepted (go (eqb (length buffer) Record.LENGTH))
-    where
-      go : (t : Bool) → Borne b (converted b (cond t (encoded 0 (upgraded b)) (encoded 2 buffer))) (stands true (upgrade buffer) (left (answered (cond t 0 2) s)))
-      go true =
-          record {
-            refusal = refl;
-            answer = refl;
-            resumed = refl;
-            state = held_new (upgraded b) s false refl (record {
-              accepted = accepted_up b long (m.small refl) ∙ m.accepted;
-              holds = ap session_of (sym (in_form_old b long)) ∙ m.holds;
-            });
-            unchanged = impossible;
-          }
-      go false = record { refusal = refl; answer = refl; resumed = refl; state = m; unchanged = λ _. refl }
-
-  refused_as : (o : Outcome (List ℕ)) → o ≡ record { refusal = 2; answer = Empty; resumed = false; state = b }
-      → Borne b o (record { refusal = 2; answer = Empty; resumed = false; state = standing s true })
-  refused_as o e = subst (λ (x : Outcome (List ℕ)). Borne b x (record { refusal = 2; answer = Empty; resumed = false; state = standing s true })) (sym e) (untaken b (standing s true) m)
-
-  borne_old : (c : Call) → Borne b (step_of b c) (stand_step (standing s true) c)
-  borne_old (setup block a d msr) = refused_as _ (ap framed (setup_refused block a d msr))
-  borne_old (queue_event vector coded code) = refused_as _ (ap plain (call_refused (queue_step vector coded code)))
-  borne_old (inject_interrupt vector) = refused_as _ (ap plain (call_refused (λ t. Queue.inject_interrupt t vector)))
-  borne_old (entry stack) = refused_as _ (ap entered (entry_refused stack))
-  borne_old (exit_report block) = refused_as _ (ap reported (report_refused block))
-  borne_old (apic_value value) = refused_as _ (ap plain (call_refused (λ t. Access.apic_value t value)))
-  borne_old (field_write encoding value) = refused_as _ (ap plain (call_refused (λ t. Access.write_field t encoding value)))
-  borne_old (register_write index value) = refused_as _ (ap plain (call_refused (λ t. Access.set_register t index value)))
-  borne_old (upgrade buffer) = upgrade_borne buffer
-  borne_old (downgrade buffer) = refused_as _ (ap (converted b) (downgrade_refused buffer))
-
-carried_by : (b : List ℕ) (s : Session) (old : Bool) (c : Call) → WellTyped c → Bears b (standing s old) → Sound s → Borne b (step_of b c) (stand_step (standing s old) c)
-carried_by b s true c w m h = borne_old b s m c
-carried_by b s false c w m h = borne_new b s m h c w
-
-pub carried : (b : List ℕ) (x : Standing) (c : Call) → WellTyped c → Bears b x → Sound x.session → Borne b (step_of b c) (stand_step x c)
-carried b x c w m h = carried_by b x.session x.old c w m h
+pub carried : (b : List ℕ) (s : Session) (c : Call) → WellTyped c → Holds b s → Sound s → Carried b (step_of b c) (session_step s c)
+carried b s (setup block a d msr) w m h =
+    setup_carried block a d msr b s m (step begun s (setup block a d msr) w h).unchanged (sound_step s (setup block a d msr) w h)
+carried b s (queue_event vector coded code) w m h =
+    call_carried (queue_step vector coded code) b s m (step begun s (queue_event vector coded code) w h).unchanged (sound_step s (queue_event vector coded code) w h)
+carried b s (inject_interrupt vector) w m h =
+    call_carried (λ t. Queue.inject_interrupt t vector) b s m (step begun s (inject_interrupt vector) w h).unchanged (sound_step s (inject_interrupt vector) w h)
+carried b s (entry stack) w m h =
+    let t = step begun s (entry stack) w h in
+    entry_carried stack b s m t.unchanged (λ r. t.answer ∙ rw r) (no_launch s stack) (sound_step s (entry stack) w h)
+carried b s (exit_report block) w m h = report_carried block b s m (step begun s (exit_report block) w h).unchanged (sound_step s (exit_report block) w h)
+carried b s (apic_value value) w m h =
+    call_carried (λ t. Access.apic_value t value) b s m (step begun s (apic_value value) w h).unchanged (sound_step s (apic_value value) w h)
+carried b s (field_write encoding value) w m h =
+    call_carried (λ t. Access.write_field t encoding value) b s m (step begun s (field_write encoding value) w h).unchanged
+    (sound_step s (field_write encoding value) w h)
+carried b s (register_write index value) w m h =
+    call_carried (λ t. Access.set_register t index value) b s m (step begun s (register_write index value) w h).unchanged
+    (sound_step s (register_write index value) w h)
 
 -- ---- a list of calls
 
-pub record CarriedAll (b : List ℕ) (x : Standing) (cs : List Call) : Type 0 where
-  pub history : history_of b cs ≡ stand_log x cs
-  pub state : Bears (after b cs) (stands_after x cs)
+pub record CarriedAll (b : List ℕ) (s : Session) (cs : List Call) : Type 0 where
+  pub history : history_of b cs ≡ session_log s cs
+  pub state : Holds (after b cs) (session_after s cs)
 
-pub carry : (b : List ℕ) (x : Standing) (cs : List Call) → AllWellTyped cs → Bears b x → Sound x.session → CarriedAll b x cs
-carry b x [] w m h = record { history = refl; state = m }
-carry b x (c ∷ cs) w m h =
-    let k = carried b x c w.0 m h in
-    let r = carry (step_of b c).state (stand_step x c).state cs w.1 k.state (sound_stand x c w.0 h) in
+pub carry : (b : List ℕ) (s : Session) (cs : List Call) → AllWellTyped cs → Holds b s → Sound s → CarriedAll b s cs
+carry b s [] w m h = record { history = refl; state = m }
+carry b s (c ∷ cs) w m h =
+    let k = carried b s c w.0 m h in
+    let r = carry (step_of b c).state (next s c) cs w.1 k.state (sound_step s c w.0 h) in
     record {
       history = λ i. record { call = c; refusal = k.refusal i; answer = k.answer i; waiting = waiting_of (m.holds i) } ∷ r.history i;
       state = r.state;
@@ -474,5 +311,5 @@ sound_new =
       lawful = record { phase = zero-le; waiting = zero-le; held = zero-le };
     }
 
-pub held_first : Bears new_record (standing new_session false)
-held_first = held_new new_record new_session false refl (subst (λ (b : List ℕ). Holds b new_session) faithful.new (holds_encoded new_session sound_new))
+pub holds_new : Holds new_record new_session
+holds_new = subst (λ (b : List ℕ). Holds b new_session) faithful.new (holds_encoded new_session sound_new)

@@ -69,18 +69,16 @@ use Rattle.vcpu_report.proofs.ReportLaws.{exit_is, report_laws}
 use Rattle.blocks.specs.SetupBlock.{arguments_of, msrs_of, features_of}
 use Rattle.call_specs.specs.Records.{queue_step}
 use Rattle.bits.specs.Refuses.{by, Refuses}
-use Rattle.record.specs.Record as Record
-use Rattle.old_record.specs.Old as Old
-use Rattle.bits.proofs.Tells.{both_true, Tells, tells_eq, tells_leb, tells_on, tells_clear, tells_and, tells_or, tells_not, tells_as, cond_all}
+use Rattle.bits.proofs.Tells.{Tells, tells_eq, tells_leb, tells_on, tells_clear, tells_and, tells_or, tells_not, tells_as, cond_all}
 use Rattle.calls.specs.Moves.{Move, queues, exits, fails, rests, moved, answer_of, Tally, tallied}
-use Rattle.calls.specs.Reference.{choose, Call, setup, queue_event, inject_interrupt, entry, exit_report, apic_value, field_write, register_write, upgrade, downgrade, WellTyped, Event, entry_move, move_by, Limits, msr_at, limits_of, control_value, IsHeld, is_held, answer_on, move_on, Reference, types, codes, code_goes_in, is_soft, event_fields, event_by, controls_by, in_phase, at_setup, at_entry, at_exit, at_field_write, words_by, reference_step, reference_answer, Buffers, setup_rules, report_rules, own_rules, takes_old, old_step, rules}
+use Rattle.calls.specs.Reference.{choose, Call, setup, queue_event, inject_interrupt, entry, exit_report, apic_value, field_write, register_write, WellTyped, Event, entry_move, move_by, Limits, msr_at, limits_of, control_value, IsHeld, is_held, answer_on, move_on, Reference, types, codes, code_goes_in, is_soft, event_fields, event_by, controls_by, in_phase, at_setup, at_entry, at_exit, at_field_write, words_by, reference_step, reference_answer, Buffers, setup_rules, report_rules, own_rules}
 use Rattle.calls.specs.Calls.{Outcome, Logged, is_refused, event_of, events_of, waiting_of, limits_in, words_of, move_of}
 use Rattle.calls.proofs.Choices.{impossible, choose_no, choose_ap}
 use Rattle.calls.proofs.Events.{events_set, events_long, events_shifted, events_front}
 use Rattle.calls.proofs.RawWrites.{Names, raw_read, placed_listed, listed_placed}
 use Rattle.calls.proofs.WordBits.{tabled}
 use Rattle.calls.proofs.Fields.{put_own, same_stack, same_window, same_injected, entry_fields, same_entered, injected_code, injected_long, entered_word}
-use Rattle.calls.proofs.Sessions.{has_buffers, left, entering, session_step, Standing, differ, stands, stand_step, Sound, sound_sized, sound_alike, view_of}
+use Rattle.calls.proofs.Sessions.{has_buffers, left, entering, session_step, Sound, sound_sized, sound_alike, view_of}
 use Rattle.calls.proofs.SetupNumbers.{buffers_of, of_buffers, setup_refuses, same_limits, secondary_set_lem}
 use Rattle.calls.proofs.SetupFits.{typed}
 use Rattle.calls.proofs.Handled.{exit_primary, exit_entry, exit_cr0, exit_cr0_mask, exit_cr4, exit_cr4_mask}
@@ -845,42 +843,6 @@ module _ (t : Tally Event) (s : Session) (block : List ℕ) (h : Sound s) where
       cond_all (λ (a : Answered). Stepped t s report (left a)) (eqb (length block) ReportLayout.LENGTH) _ _
       (λ y. report_decided (eqb-true _ _ y) (eqb (report_refusal s r) 0) refl) (λ y. refuses t s report 2 refl (inl (eqb-false _ _ y, refl)))
 
--- ---- conversions: the session stays
-
-upgrade_step : (t : Tally Event) (s : Session) (buffer : List ℕ) → Stepped t s (upgrade buffer) (session_step s (upgrade buffer))
-upgrade_step t s buffer =
-    cond_all (λ (n : ℕ). Stepped t s (upgrade buffer) (left (answered n s))) (eqb (length buffer) Record.LENGTH) _ _
-    (λ y. quiet t s (upgrade buffer) s rests rests_quiet (λ _ _. refl) refl refl refl refl (inr (λ n. n (eqb-true _ _ y), refl)))
-    (λ y. refuses t s (upgrade buffer) 2 refl (inl (eqb-false _ _ y, refl)))
-
-downgrade_step : (t : Tally Event) (s : Session) (buffer : List ℕ) → Stepped t s (downgrade buffer) (session_step s (downgrade buffer))
-downgrade_step t s buffer =
-    cond_all P (eqb (length buffer) Old.LENGTH) _ _
-    (λ y. cond_all P (ltb s.progress.entries (2 ^ 32) && ltb s.progress.held (2 ^ 32)) _ _
-    (λ z.
-    let b = both_true (ltb s.progress.entries (2 ^ 32)) (ltb s.progress.held (2 ^ 32)) z in
-    let e = ltb-true s.progress.entries (2 ^ 32) b.0 in
-    let h = ltb-true s.progress.held (2 ^ 32) b.1 in
-    quiet t s c s rests rests_quiet (λ _ _. refl) refl refl refl refl
-    (inr (λ n. n (eqb-true _ _ y), inr (few e h, refl))))
-    (λ z. refuses t s c 27 refl (inr (λ n. n (eqb-true _ _ y), inl (wide (ltb s.progress.entries (2 ^ 32)) z refl, refl)))))
-    (λ y. refuses t s c 2 refl (inl (eqb-false _ _ y, refl)))
-  where
-    c : Call
-    c = downgrade buffer
-
-    P : ℕ → Type 0
-    P n = Stepped t s c (left (answered n s))
-
-    few : s.progress.entries < 2 ^ 32 → s.progress.held < 2 ^ 32 → (2 ^ 32 ≤ s.progress.entries) ⊎ (2 ^ 32 ≤ s.progress.held) → ⊥
-    few e h (inl a) = omega arith
-    few e h (inr a) = omega arith
-
-    wide : (u : Bool) → (u && ltb s.progress.held (2 ^ 32)) ≡ false → ltb s.progress.entries (2 ^ 32) ≡ u
-        → (2 ^ 32 ≤ s.progress.entries) ⊎ (2 ^ 32 ≤ s.progress.held)
-    wide true z e = inr (ltb-false _ _ z)
-    wide false z e = inl (ltb-false _ _ e)
-
 -- ---- every call
 
 pub step : (t : Tally Event) (s : Session) (c : Call) → WellTyped c → Sound s → Stepped t s c (session_step s c)
@@ -892,44 +854,3 @@ step t s (exit_report block) w h = report_step t s block h
 step t s (apic_value value) w h = apic_step t s value h
 step t s (field_write encoding value) w h = write_step t s encoding value w.1 h
 step t s (register_write index value) w h = register_step t s index value h
-step t s (upgrade buffer) w h = upgrade_step t s buffer
-step t s (downgrade buffer) w h = downgrade_step t s buffer
-
--- ---- whatever length the record has
-
-pub record Stood (t : Tally Event) (x : Standing) (c : Call) (o : Outcome Standing) : Type 0 where
-  pub move : move_of (record { call = c; refusal = o.refusal; answer = o.answer; waiting = waiting_of x.session })
-      ≡ cond (is_refused o.refusal) rests (move_on (view_of t x.session) c)
-  pub state : view_of (tallied t (move_of (record { call = c; refusal = o.refusal; answer = o.answer; waiting = waiting_of x.session }))) o.state.session
-      ≡ reference_step (view_of t x.session) c (is_refused o.refusal)
-  pub form : o.state.old ≡ old_step x.old c (is_refused o.refusal)
-  pub answer : o.answer ≡ reference_answer (view_of t x.session) c (is_refused o.refusal)
-  pub numbers : Refuses (rules x.old (view_of t x.session) c) o.refusal
-  pub unchanged : is_refused o.refusal ≡ true → o.state ≡ x
-
-differs : (a b : Bool) → differ a b ≡ true → a ≢ b
-differs true true e f = true≢false (sym e)
-differs true false e f = true≢false f
-differs false true e f = true≢false (sym f)
-differs false false e f = true≢false (sym e)
-
-agrees : (a b : Bool) → differ a b ≡ false → a ≡ b
-agrees true true e = refl
-agrees true false e = e
-agrees false true e = sym e
-agrees false false e = refl
-
-pub stand : (t : Tally Event) (x : Standing) (c : Call) → WellTyped c → Sound x.session → Stood t x c (stand_step x c)
-stand t x c w h =
-    cond_all (Stood t x c) (differ x.old (takes_old c)) _ _
-    (λ e. record { move = refl; state = refl; form = refl; answer = refl; numbers = inl (differs x.old (takes_old c) e, refl); unchanged = λ _. refl })
-    (λ e.
-    let k = step t x.session c w h in
-    record {
-      move = k.move;
-      state = k.state;
-      form = refl;
-      answer = k.answer;
-      numbers = inr (λ n. n (agrees x.old (takes_old c) e), k.numbers);
-      unchanged = λ r i. record { session = k.unchanged r i; old = ap (old_step x.old c) r i };
-    })

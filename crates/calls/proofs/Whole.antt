@@ -3,27 +3,21 @@ use Prim.Native.Nat.{ℕ}
 use mathlib.Core.Path.{◌≡◌, refl, sym, ap, ◌∙◌, subst}
 use mathlib.Core.Bool.{Bool, true, false, cond}
 use mathlib.Core.List.{List, [], ◌∷◌}
-use mathlib.Core.Logic.{◌⊎◌, inl, inr}
-use native.Mathlib.Omega.{arith}
 use borrow.Author.Tests.{eqb-true, not-false}
 use Rattle.bits.specs.Refuses.{Refuses}
 use Rattle.bits.specs.Words.{bit}
 use Rattle.bits.proofs.Tells.{cond_all}
+use Rattle.vcpu_session.specs.declared.Session.{Session}
 use Rattle.vcpu_events.specs.declared.Injection.{Injection}
 use Rattle.vcpu_events.specs.declared.Injection.TheVariants.{Held, Written}
 use Rattle.blocks.specs.ReportBlock.{report_of}
 use Rattle.calls.specs.Moves.{Move, fails, exits, rests, moved, Tally, tallied, tallied_all}
-use Rattle.calls.specs.Reference.{choose, Call, setup, queue_event, inject_interrupt, entry, exit_report, apic_value, field_write, register_write, upgrade, downgrade, WellTyped, AllWellTyped, Event, entry_move, Reference, is_held, answer_on, move_on, reference_step, reference_after, reference_answers, own_rules, Fed, old_after, rules}
+use Rattle.calls.specs.Reference.{choose, Call, setup, queue_event, inject_interrupt, entry, exit_report, apic_value, field_write, register_write, WellTyped, AllWellTyped, Event, entry_move, Reference, is_held, answer_on, move_on, reference_step, reference_after, reference_answers, own_rules, Fed}
 use Rattle.calls.specs.Calls.{is_refused, fed, answers_of, move_of, moves_of, waiting_of}
-use Rattle.calls.proofs.Sessions.{Standing, stand_step, stands_after, stand_logged, stand_log, Sound, view_of}
-use Rattle.calls.proofs.Fits.{sound_stand}
-use Rattle.calls.proofs.Steps.{stand}
+use Rattle.calls.proofs.Sessions.{next, session_after, session_logged, session_log, Sound, view_of}
+use Rattle.calls.proofs.Fits.{sound_step}
+use Rattle.calls.proofs.Steps.{step}
 use Rattle.calls.proofs.Waiting.{Can, Kept, keeps}
-
--- the first rule, of a number that is not 0, does not apply to an accepted call
-pub passed : {P Q : Type 0} (n : ℕ) → (n ≡ 0 → ⊥) → (P × (0 ≡ n)) ⊎ Q → Q
-passed n some (inl x) = absurd (some (sym x.1))
-passed n some (inr x) = x
 
 pub accepts : (n : ℕ) → is_refused n ≡ false → n ≡ 0
 accepts n e = eqb-true n 0 (not-false _ e)
@@ -59,35 +53,33 @@ can_on p (exit_report block) = cond_all (Can p.pending) (bit 31 (report_of block
 can_on p (apic_value value) = tt
 can_on p (field_write encoding value) = tt
 can_on p (register_write index value) = tt
-can_on p (upgrade buffer) = tt
-can_on p (downgrade buffer) = tt
 
 can_where : (p : Reference) (c : Call) (r : Bool) → Can p.pending (move_where p c r)
 can_where p c true = tt
 can_where p c false = can_on p c
 
--- ---- one call, on a session whose record has either length
+-- ---- one call, on the session
 
-module _ (t : Tally Event) (x : Standing) (c : Call) (w : WellTyped c) (h : Sound x.session) where
+module _ (t : Tally Event) (s : Session) (c : Call) (w : WellTyped c) (h : Sound s) where
   abbrev this : Move Event
-  this = move_of (stand_logged x c)
+  this = move_of (session_logged s c)
 
-  pub can : Can (waiting_of x.session) this
-  can = subst (Can (waiting_of x.session)) (sym (stand t x c w h).move) (can_where (view_of t x.session) c (is_refused (stand_logged x c).refusal))
+  pub can : Can (waiting_of s) this
+  can = subst (Can (waiting_of s)) (sym (step t s c w h).move) (can_where (view_of t s) c (is_refused (session_logged s c).refusal))
 
-  pub moves : waiting_of (stand_step x c).state.session ≡ moved (waiting_of x.session) this
+  pub moves : waiting_of (next s c) ≡ moved (waiting_of s) this
   moves =
-      ap (λ (p : Reference). p.pending) (stand t x c w h).state ∙ pending_on (view_of t x.session) c (is_refused (stand_logged x c).refusal)
-      ∙ ap (moved (waiting_of x.session)) (sym (stand t x c w h).move)
+      ap (λ (p : Reference). p.pending) (step t s c w h).state ∙ pending_on (view_of t s) c (is_refused (session_logged s c).refusal)
+      ∙ ap (moved (waiting_of s)) (sym (step t s c w h).move)
 
   -- a tally that has the session's counts has them after the call
-  counts : (view_of t x.session).tally ≡ t → (view_of (tallied t this) (stand_step x c).state.session).tally ≡ tallied t this
+  counts : (view_of t s).tally ≡ t → (view_of (tallied t this) (next s c)).tally ≡ tallied t this
   counts e =
-      ap (λ (p : Reference). p.tally) (stand t x c w h).state ∙ tally_on (view_of t x.session) c (is_refused (stand_logged x c).refusal)
-      ∙ (λ i. tallied (e i) (sym (stand t x c w h).move i))
+      ap (λ (p : Reference). p.tally) (step t s c w h).state ∙ tally_on (view_of t s) c (is_refused (session_logged s c).refusal)
+      ∙ (λ i. tallied (e i) (sym (step t s c w h).move i))
 
-  pub accepted : is_refused (stand_logged x c).refusal ≡ false → Refuses (own_rules (view_of t x.session) c) 0
-  accepted e = (passed 2 (λ z. omega arith) (subst (Refuses (rules x.old (view_of t x.session) c)) (accepts (stand_logged x c).refusal e) (stand t x c w h).numbers)).1
+  pub accepted : is_refused (session_logged s c).refusal ≡ false → Refuses (own_rules (view_of t s) c) 0
+  accepted e = subst (Refuses (own_rules (view_of t s) c)) (accepts (session_logged s c).refusal e) (step t s c w h).numbers
 
 -- ---- a list of calls
 
@@ -96,33 +88,31 @@ abbrev pub Follows : Reference → List Fed → Type 0
 Follows p [] = Unit {0}
 Follows p (l ∷ ls) = (l.refused ≡ false → Refuses (own_rules p l.call) 0) × Follows (reference_step p l.call l.refused) ls
 
-pub record Ran (t : Tally Event) (x : Standing) (cs : List Call) : Type 0 where
-  pub sound : Sound (stands_after x cs).session
-  pub state : view_of (tallied_all t (moves_of (stand_log x cs))) (stands_after x cs).session ≡ reference_after (view_of t x.session) (fed (stand_log x cs))
-  pub form : (stands_after x cs).old ≡ old_after x.old (fed (stand_log x cs))
-  pub answered : answers_of (stand_log x cs) ≡ reference_answers (view_of t x.session) (fed (stand_log x cs))
-  pub follows : Follows (view_of t x.session) (fed (stand_log x cs))
-  pub counts : (view_of t x.session).tally ≡ t → (view_of (tallied_all t (moves_of (stand_log x cs))) (stands_after x cs).session).tally ≡ tallied_all t (moves_of (stand_log x cs))
+pub record Ran (t : Tally Event) (s : Session) (cs : List Call) : Type 0 where
+  pub sound : Sound (session_after s cs)
+  pub state : view_of (tallied_all t (moves_of (session_log s cs))) (session_after s cs) ≡ reference_after (view_of t s) (fed (session_log s cs))
+  pub answered : answers_of (session_log s cs) ≡ reference_answers (view_of t s) (fed (session_log s cs))
+  pub follows : Follows (view_of t s) (fed (session_log s cs))
+  pub counts : (view_of t s).tally ≡ t → (view_of (tallied_all t (moves_of (session_log s cs))) (session_after s cs)).tally ≡ tallied_all t (moves_of (session_log s cs))
 
-pub run : (t : Tally Event) (x : Standing) (cs : List Call) → AllWellTyped cs → Sound x.session → Ran t x cs
-run t x [] w h = record { sound = h; state = refl; form = refl; answered = refl; follows = tt; counts = λ e. e }
-run t x (c ∷ cs) w h =
-    let k = stand t x c w.0 h in
-    let ls = stand_log (stand_step x c).state cs in
-    let r = run (tallied t (move_of (stand_logged x c))) (stand_step x c).state cs w.1 (sound_stand x c w.0 h) in
+pub run : (t : Tally Event) (s : Session) (cs : List Call) → AllWellTyped cs → Sound s → Ran t s cs
+run t s [] w h = record { sound = h; state = refl; answered = refl; follows = tt; counts = λ e. e }
+run t s (c ∷ cs) w h =
+    let k = step t s c w.0 h in
+    let ls = session_log (next s c) cs in
+    let r = run (tallied t (move_of (session_logged s c))) (next s c) cs w.1 (sound_step s c w.0 h) in
     record {
       sound = r.sound;
       state = r.state ∙ ap (λ (p : Reference). reference_after p (fed ls)) k.state;
-      form = r.form ∙ ap (λ (o : Bool). old_after o (fed ls)) k.form;
-      answered = ap (λ (l : List Injection). (stand_logged x c).answer ∷ l) r.answered ∙ (λ i. k.answer i ∷ reference_answers (k.state i) (fed ls));
-      follows = (accepted t x c w.0 h, subst (λ (p : Reference). Follows p (fed ls)) k.state r.follows);
-      counts = λ e. r.counts (counts t x c w.0 h e);
+      answered = ap (λ (x : List Injection). (session_logged s c).answer ∷ x) r.answered ∙ (λ i. k.answer i ∷ reference_answers (k.state i) (fed ls));
+      follows = (accepted t s c w.0 h, subst (λ (p : Reference). Follows p (fed ls)) k.state r.follows);
+      counts = λ e. r.counts (counts t s c w.0 h e);
     }
 
 -- the invariant of waiting
-pub kept_after : {ahead y : List Event} (t : Tally Event) (x : Standing) (cs : List Call) → AllWellTyped cs → Sound x.session → Kept ahead y (waiting_of x.session) t
-    → Kept ahead y (waiting_of (stands_after x cs).session) (tallied_all t (moves_of (stand_log x cs)))
-kept_after t x [] w h k = k
-kept_after {ahead} {y} t x (c ∷ cs) w h k =
-    kept_after (tallied t (move_of (stand_logged x c))) (stand_step x c).state cs w.1 (sound_stand x c w.0 h)
-    (subst (λ (l : List Event). Kept ahead y l (tallied t (move_of (stand_logged x c)))) (sym (moves t x c w.0 h)) (keeps k (move_of (stand_logged x c)) (can t x c w.0 h)))
+pub kept_after : {ahead x : List Event} (t : Tally Event) (s : Session) (cs : List Call) → AllWellTyped cs → Sound s → Kept ahead x (waiting_of s) t
+    → Kept ahead x (waiting_of (session_after s cs)) (tallied_all t (moves_of (session_log s cs)))
+kept_after t s [] w h k = k
+kept_after {ahead} {x} t s (c ∷ cs) w h k =
+    kept_after (tallied t (move_of (session_logged s c))) (next s c) cs w.1 (sound_step s c w.0 h)
+    (subst (λ (l : List Event). Kept ahead x l (tallied t (move_of (session_logged s c)))) (sym (moves t s c w.0 h)) (keeps k (move_of (session_logged s c)) (can t s c w.0 h)))

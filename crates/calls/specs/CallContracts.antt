@@ -1,17 +1,15 @@
 -- The steps of a list are the exported functions' contracts: what meets the contract of a call is its step, and a refused call leaves what it was lent beside the
 -- record too. Assumes nothing.
-use Rattle.std.specs.Prelude.{ℕ, ◌≡◌, true, false, cond, List, eqb, length, replicate}
+use Rattle.std.specs.Prelude.{ℕ, ◌≡◌, true, false, List, length, replicate}
 use Rattle.bits.specs.Words.{flag}
 use Rattle.vcpu_events.specs.Queue as Queue
 use Rattle.vcpu_events.specs.declared.Injection.TheVariants.{Empty}
 use Rattle.vcpu_events.specs.Access as Access
 use Rattle.record.specs.Record as Record
-use Rattle.record.specs.Codec.{encoded}
-use Rattle.old_record.specs.Old.{upgrade_call, downgrade_call}
 use Rattle.call_specs.specs.Records.{Called, queue_step, EntryCalled, frames_call, new_call}
 use Rattle.call_specs.specs.SetupCall.{SetupCalled}
 use Rattle.call_specs.specs.ReportCall.{ReportCalled}
-use Rattle.calls.specs.Reference.{Call, setup, queue_event, inject_interrupt, entry, exit_report, apic_value, field_write, register_write, upgrade, downgrade}
+use Rattle.calls.specs.Reference.{Call, setup, queue_event, inject_interrupt, entry, exit_report, apic_value, field_write, register_write}
 use Rattle.calls.specs.Calls.{step_of, new_record, is_refused, answer_number}
 
 -- the buffers of vcpu_new have their lengths
@@ -46,11 +44,6 @@ pub record Reports (b block words : List ℕ) (r : ℕ) (after words' : List ℕ
   pub step : Does b (exit_report block) r after
   pub left : is_refused r ≡ true → words' ≡ words
 
--- a conversion answers r and leaves x in the buffer; a refused one leaves the buffer
-pub record Converts (b : List ℕ) (c : Call) (buffer : List ℕ) (r : ℕ) (x : List ℕ) : Type 0 where
-  pub step : Does b c r (cond (eqb r 0) x b)
-  pub left : is_refused r ≡ true → x ≡ buffer
-
 pub record Contracts (b : List ℕ) : Type 0 where
   -- vcpu_new
   pub new : (bytes x y z : List ℕ) (r : ℕ) (bytes' x' y' z' : List ℕ) → frames_call r bytes' x' y' z' ≡ new_call bytes x y z → Creates bytes x y z r bytes' x' y' z'
@@ -71,6 +64,3 @@ pub record Contracts (b : List ℕ) : Type 0 where
   pub field : (encoding value r : ℕ) (after : List ℕ) → Called (λ s. Access.write_field s encoding value) b r after → Does b (field_write encoding value) r after
   -- vcpu_set_reg_of_index
   pub register : (index value r : ℕ) (after : List ℕ) → Called (λ s. Access.set_register s index value) b r after → Does b (register_write index value) r after
-  -- vcpu_upgrade_record and vcpu_downgrade_record answer r and leave the buffer x: the host goes on with it where they are accepted; refused, it is as it was
-  pub upgrades : (buffer : List ℕ) (r : ℕ) (x : List ℕ) → encoded r x ≡ upgrade_call b buffer → Converts b (upgrade buffer) buffer r x
-  pub downgrades : (buffer : List ℕ) (r : ℕ) (x : List ℕ) → encoded r x ≡ downgrade_call b buffer → Converts b (downgrade buffer) buffer r x

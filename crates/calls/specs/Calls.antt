@@ -21,12 +21,11 @@ use Rattle.vcpu_events.specs.declared.Injection.TheVariants.{Empty, Held, Writte
 use Rattle.vcpu_events.specs.Access as Access
 use Rattle.record.specs.Codec.{session_of, Encoded}
 use Rattle.record.specs.Record as Record
-use Rattle.old_record.specs.Old.{upgrade_call, downgrade_call, in_form}
 use Rattle.call_specs.specs.Records.{call_of, queue_step, EntryCall, entry_call, FramesCall}
 use Rattle.call_specs.specs.SetupCall.{setup_call}
 use Rattle.call_specs.specs.ReportCall.{ReportCall, report_call}
 use Rattle.calls.specs.Moves.{Move, rests, Tally, begun, tallied_all}
-use Rattle.calls.specs.Reference.{Call, setup, queue_event, inject_interrupt, entry, exit_report, apic_value, field_write, register_write, upgrade, downgrade, Event, move_by, Bounds, Limits, Words, Fed}
+use Rattle.calls.specs.Reference.{Call, setup, queue_event, inject_interrupt, entry, exit_report, apic_value, field_write, register_write, Event, move_by, Bounds, Limits, Words, Fed}
 
 -- ---- one call
 
@@ -59,10 +58,6 @@ answer_number Written = 2
 abbrev pub entered : EntryCall → Outcome (List ℕ)
 entered r = record { refusal = r.refusal; answer = numbered r.injection; resumed = eqb r.resumed 1; state = r.bytes }
 
--- a conversion: where it is accepted the host goes on with the buffer that it wrote
-abbrev pub converted : List ℕ → Encoded → Outcome (List ℕ)
-converted b r = record { refusal = r.refusal; answer = Empty; resumed = false; state = cond (eqb r.refusal 0) r.bytes b }
-
 -- the call on a record. The results of an entry and the answer of a report hold 0 before it here: an accepted call does not depend on them, a refused one leaves
 -- them (Contracts.antt), so that a refused entry counts as Empty and not resumed
 abbrev pub step_of : List ℕ → Call → Outcome (List ℕ)
@@ -74,8 +69,6 @@ step_of bytes (exit_report block) = reported (report_call bytes block (replicate
 step_of bytes (apic_value value) = plain (call_of (λ s. Access.apic_value s value) bytes)
 step_of bytes (field_write encoding value) = plain (call_of (λ s. Access.write_field s encoding value) bytes)
 step_of bytes (register_write index value) = plain (call_of (λ s. Access.set_register s index value) bytes)
-step_of bytes (upgrade buffer) = converted bytes (upgrade_call bytes buffer)
-step_of bytes (downgrade buffer) = converted bytes (downgrade_call bytes buffer)
 
 -- ---- the session as the reference has it
 
@@ -165,22 +158,18 @@ module _ {S : Type 0} (step : S → Call → Outcome S) (waiting : S → List Ev
   log_of s [] = []
   log_of s (c ∷ cs) = logged s c ∷ log_of (step s c).state cs
 
--- the session that a record of either length holds
-abbrev pub session_in : List ℕ → Session
-session_in b = session_of (in_form b)
-
 -- the record of a new session
 abbrev pub new_record : List ℕ
 new_record = replicate Record.LENGTH 0
 
 abbrev pub after : List ℕ → List Call → List ℕ
-after = after_all step_of (λ b. waiting_of (session_in b))
+after = after_all step_of (λ b. waiting_of (session_of b))
 
 abbrev pub logged_of : List ℕ → Call → Logged
-logged_of = logged step_of (λ b. waiting_of (session_in b))
+logged_of = logged step_of (λ b. waiting_of (session_of b))
 
 abbrev pub history_of : List ℕ → List Call → List Logged
-history_of = log_of step_of (λ b. waiting_of (session_in b))
+history_of = log_of step_of (λ b. waiting_of (session_of b))
 
 -- ---- what is read off a list
 
@@ -196,7 +185,7 @@ Declines b c = is_refused (step_of b c).refusal ≡ true
 
 -- the session that an entry on a record leaves
 abbrev pub entered_of : List ℕ → ℕ → Session
-entered_of b stack = session_in (step_of b (entry stack)).state
+entered_of b stack = session_of (step_of b (entry stack)).state
 
 abbrev pub fed : List Logged → List Fed
 fed [] = []
@@ -229,8 +218,6 @@ writes_field x (exit_report block) = false
 writes_field x (apic_value value) = false
 writes_field x (field_write encoding value) = eqb encoding x
 writes_field x (register_write index value) = false
-writes_field x (upgrade buffer) = false
-writes_field x (downgrade buffer) = false
 
 -- such a write was accepted
 abbrev pub written : ℕ → List Fed → Bool

@@ -1,6 +1,6 @@
 -- Demand 3, the whole list (document 01): what is claimed of every list of well-typed calls on one session's record from that of a new one. The other exported functions leave the
 -- record: they only read it, or take none. Assumes nothing.
-use Rattle.std.specs.Prelude.{ℕ, ◌+◌, ◌≤◌, ◌≡◌, Bool, true, false, cond, ◌⊎◌, T, length, drop}
+use Rattle.std.specs.Prelude.{ℕ, ◌+◌, ◌≤◌, ◌≡◌, Bool, true, false, ◌⊎◌, T, length, drop}
 use mathlib.Core.List.{List, [], ◌∷◌, ◌++◌, Memᴰ}
 use Rattle.bits.specs.Refuses.{Refuses}
 use Rattle.bits.specs.Words.{bit, Permitted, PermittedBut}
@@ -12,11 +12,10 @@ use Rattle.vmcs.specs.declared.Vmcs.{Vmcs}
 use Rattle.vcpu_session.specs.declared.Session.{Session}
 use Rattle.vcpu_events.specs.declared.Injection.{Injection}
 use Rattle.vcpu_events.specs.declared.Injection.TheVariants.{Empty, Held, Written}
-use Rattle.record.specs.Codec.{accepted_of}
-use Rattle.old_record.specs.Old.{old_accepted_of}
+use Rattle.record.specs.Codec.{session_of, accepted_of}
 use Rattle.calls.specs.Moves.{queues, writes}
-use Rattle.calls.specs.Reference.{Call, setup, entry, Event, WellTyped, AllWellTyped, Limits, limits_of, Reference, start, IsHeld, Xcr0Allowed, Fed, reference_after, reference_answers, old_after, rules, Words, event_fields}
-use Rattle.calls.specs.Calls.{step_of, session_in, new_record, after, logged_of, history_of, Accepts, Declines, entered_of, fed, move_of, tally_of, written, Logged, answers_of, waiting_of, words_of}
+use Rattle.calls.specs.Reference.{Call, setup, entry, Event, WellTyped, AllWellTyped, Limits, limits_of, Reference, start, IsHeld, Xcr0Allowed, Fed, reference_after, reference_answers, rules, Words, event_fields}
+use Rattle.calls.specs.Calls.{step_of, new_record, after, logged_of, history_of, Accepts, Declines, entered_of, fed, move_of, tally_of, written, Logged, answers_of, waiting_of, words_of}
 
 -- ---- an entry, by the reference before it
 
@@ -56,7 +55,7 @@ pub record WaitLaw (b : List ℕ) (ahead : List Event) (e : Event) : Type 0 wher
   pub counted : (later : List Call) → AllWellTyped later → (tally_of (history_of b later)).held ≤ (tally_of (history_of b later)).entries
   -- while n is at most k, it is pending: behind those ahead that are not injected, before those queued since
   pub waits : (later : List Call) → AllWellTyped later → (n : ℕ) → (tally_of (history_of b later)).entries ≡ (tally_of (history_of b later)).held + n → n ≤ length ahead
-      → waiting_of (session_in (after b later)) ≡ drop n ahead ++ (e ∷ (tally_of (history_of b later)).queued)
+      → waiting_of (session_of (after b later)) ≡ drop n ahead ++ (e ∷ (tally_of (history_of b later)).queued)
   -- it is injected at the first call by which they make k + 1
   pub injects : (later : List Call) → AllWellTyped later → (c : Call) → WellTyped c → (n : ℕ)
       → (tally_of (history_of b later)).entries ≡ (tally_of (history_of b later)).held + n
@@ -123,40 +122,37 @@ history calls = history_of new_record calls
 abbrev pub reference : List Call → Reference
 reference calls = reference_after start (fed (history calls))
 
-abbrev pub is_old : List Call → Bool
-is_old calls = old_after false (fed (history calls))
-
 -- the calls so far lead from the record of a new session to b; c and stack are of a next call
 pub record WholeList (calls : List Call) (b : List ℕ) : Type 0 where
-  -- b is a record: of the old length from an accepted downgrade to an accepted upgrade
-  pub accepted : cond (is_old calls) (old_accepted_of b) (accepted_of b) ≡ true
+  -- b is a record
+  pub accepted : accepted_of b ≡ true
   -- its waiting events and its words are the reference's, and so is what is counted of the calls
-  pub pending : waiting_of (session_in b) ≡ (reference calls).pending
-  pub words : words_of (session_in b) ≡ (reference calls).words
+  pub pending : waiting_of (session_of b) ≡ (reference calls).pending
+  pub words : words_of (session_of b) ≡ (reference calls).words
   pub tally : tally_of (history calls) ≡ (reference calls).tally
   -- each entry answered as the reference
   pub answered : answers_of (history calls) ≡ reference_answers start (fed (history calls))
   -- a call is refused exactly where its numbers say, by the first that applies
-  pub numbers : (c : Call) → WellTyped c → Refuses (rules (is_old calls) (reference calls) c) (step_of b c).refusal
+  pub numbers : (c : Call) → WellTyped c → Refuses (rules (reference calls) c) (step_of b c).refusal
   -- and then changes nothing
   pub unchanged : (c : Call) → WellTyped c → Declines b c → (step_of b c).state ≡ b
   -- the events queued are, in order, those injected, then those pending
-  pub order : (tally_of (history calls)).queued ≡ (tally_of (history calls)).injected ++ waiting_of (session_in b)
+  pub order : (tally_of (history calls)).queued ≡ (tally_of (history calls)).injected ++ waiting_of (session_of b)
   -- the counts are those of accepted entries and of those that held
-  pub entered : (session_in b).progress.entries ≡ (tally_of (history calls)).entries
-  pub held : (session_in b).progress.held ≡ (tally_of (history calls)).held
+  pub entered : (session_of b).progress.entries ≡ (tally_of (history calls)).entries
+  pub held : (session_of b).progress.held ≡ (tally_of (history calls)).held
   -- an accepted entry comes after exactly one accepted setup
   pub once : (stack : ℕ) → WellTyped (entry stack) → Accepts b (entry stack) → OneSetup (fed (history calls))
   -- it launches or resumes by the entries before it
   pub launches : (stack : ℕ) → WellTyped (entry stack) → Accepts b (entry stack)
-      → Launches (tally_of (history calls)).entries stack (session_in b) (entered_of b stack) (step_of b (entry stack)).resumed
+      → Launches (tally_of (history calls)).entries stack (session_of b) (entered_of b stack) (step_of b (entry stack)).resumed
   -- it answers none, held or written by the hold rule
   pub answers : (stack : ℕ) → WellTyped (entry stack) → Accepts b (entry stack) → Answers (reference calls) (step_of b (entry stack)).answer
   -- it injects at most the front
   pub moved : (stack : ℕ) → WellTyped (entry stack) → Accepts b (entry stack)
-      → waiting_of (session_in b) ≡ (tally_of (history_of b (entry stack ∷ []))).injected ++ waiting_of (entered_of b stack)
+      → waiting_of (session_of b) ≡ (tally_of (history_of b (entry stack ∷ []))).injected ++ waiting_of (entered_of b stack)
   -- no call takes more than one event off
-  pub at_most_one : (c : Call) → WellTyped c → length (waiting_of (session_in b)) ≤ length (waiting_of (session_in (step_of b c).state)) + 1
+  pub at_most_one : (c : Call) → WellTyped c → length (waiting_of (session_of b)) ≤ length (waiting_of (session_of (step_of b c).state)) + 1
   -- an entry that answers Written has the event in the fields. Without a raw write of 0x4016, bit 31 is set exactly after such an entry
   pub wrote : (stack : ℕ) → WellTyped (entry stack) → (step_of b (entry stack)).answer ≡ Written → Wrote (reference calls) (entered_of b stack)
   pub valid : written 0x4016 (fed (history calls)) ≡ false → (stack : ℕ) → WellTyped (entry stack) → Accepts b (entry stack)
@@ -167,6 +163,6 @@ pub record WholeList (calls : List Call) (b : List ℕ) : Type 0 where
       → (stack : ℕ) → WellTyped (entry stack) → Accepts b (entry stack)
       → Permits (limits_of block) (entered_of b stack).vmcs
   -- XCR0 before an accepted entry, which the host loads
-  pub loadable : (stack : ℕ) → WellTyped (entry stack) → Accepts b (entry stack) → Loadable (words_of (session_in b))
+  pub loadable : (stack : ℕ) → WellTyped (entry stack) → Accepts b (entry stack) → Loadable (words_of (session_of b))
   -- the law on waiting, for each event that is queued next
-  pub law : (c : Call) → WellTyped c → (e : Event) → move_of (logged_of b c) ≡ queues e → WaitLaw (step_of b c).state (waiting_of (session_in b)) e
+  pub law : (c : Call) → WellTyped c → (e : Event) → move_of (logged_of b c) ≡ queues e → WaitLaw (step_of b c).state (waiting_of (session_of b)) e

@@ -3,6 +3,5 @@ pub mod Moves
 pub mod Reference
 pub mod Calls
 pub mod DemandThree
-pub mod From
 pub mod CallContracts
 pub mod CapabilityWords

@@ -18,8 +18,6 @@ use Rattle.vcpu_events.specs.declared.Injection.{Injection}
 use Rattle.vcpu_events.specs.declared.Injection.TheVariants.{Empty, Held, Written}
 use Rattle.vcpu_setup.specs.declared.Features.{Features}
 use Rattle.vcpu_exit.specs.declared.Report.{Report}
-use Rattle.record.specs.Record as Record
-use Rattle.old_record.specs.Old as Old
 use Rattle.blocks.specs.ReportLayout as ReportLayout
 use Rattle.blocks.specs.ReportBlock.{report_of}
 use Rattle.blocks.specs.SetupLayout as Layout
@@ -64,9 +62,6 @@ pub data Call : Type 0 where
   field_write : ℕ → ℕ → Call
   -- the index, the number
   register_write : ℕ → ℕ → Call
-  -- to the record of the new length, and back to that of the old one: the buffer that is written
-  upgrade : List ℕ → Call
-  downgrade : List ℕ → Call
 
 -- each number of a call fits its type, as in every call from C
 abbrev pub WellTyped : Call → Type 0
@@ -78,8 +73,6 @@ WellTyped (exit_report block) = Below 256 block
 WellTyped (apic_value value) = value < 2 ^ 64
 WellTyped (field_write encoding value) = (encoding < 2 ^ 64) × (value < 2 ^ 64)
 WellTyped (register_write index value) = (index < 2 ^ 64) × (value < 2 ^ 64)
-WellTyped (upgrade buffer) = Unit {0}
-WellTyped (downgrade buffer) = Unit {0}
 
 abbrev pub AllWellTyped : List Call → Type 0
 AllWellTyped [] = Unit {0}
@@ -108,8 +101,6 @@ move_by (exit_report block) answer w = cond (bit 31 (report_of block).reason) fa
 move_by (apic_value value) answer w = rests
 move_by (field_write encoding value) answer w = rests
 move_by (register_write index value) answer w = rests
-move_by (upgrade buffer) answer w = rests
-move_by (downgrade buffer) answer w = rests
 
 -- ---- what the processor permits (SDM 3D, A.1 to A.5, A.7 and A.8)
 
@@ -540,8 +531,6 @@ words_by p (exit_report block) = cond (bit 31 (report_of block).reason) (in_phas
 words_by p (apic_value value) = in_phase p.words 1
 words_by p (field_write encoding value) = at_field_write p.words encoding value
 words_by p (register_write index value) = p.words
-words_by p (upgrade buffer) = p.words
-words_by p (downgrade buffer) = p.words
 
 -- ---- a list of calls
 
@@ -665,7 +654,7 @@ own_rules p (setup block a b msr) =
 own_rules p (queue_event vector coded code) = by 2 (2 ≤ coded) ∷ by 1 (p.words.phase ≡ 4) ∷ by 13 (64 ≤ length p.pending) ∷ []
 own_rules p (inject_interrupt vector) =
     by 1 (p.words.phase ≡ 4) ∷ by 12 ((vector ≡ 0) ⊎ (256 ≤ vector)) ∷ by 13 (64 ≤ length p.pending) ∷ []
-own_rules p (entry stack) = by 1 (p.words.phase ≢ 1) ∷ by 22 (p.tally.entries ≡ 0xFFFFFFFFFFFFFFFF) ∷ []
+own_rules p (entry stack) = by 1 (p.words.phase ≢ 1) ∷ by 22 (p.tally.entries ≡ 0xFFFFFFFF) ∷ []
 own_rules p (exit_report block) = by 2 (length block ≢ ReportLayout.LENGTH) ∷ report_rules p.words (report_of block)
 own_rules p (apic_value value) = by 1 (p.words.phase ≢ 3) ∷ []
 -- the encoding's bits 10 to 11 are its kind (1 is read-only), bits 13 to 14 its width (0 is 16 bits, 2 is 32, the others 64)
@@ -673,45 +662,11 @@ own_rules p (field_write encoding value) =
     by 3 (Memᴰ encoding encodings → ⊥) ∷ by 4 (encoding / 2 ^ 10 % 4 ≡ 1)
     ∷ by 5 (((encoding / 2 ^ 13 % 4 ≡ 0) × (2 ^ 16 ≤ value)) ⊎ ((encoding / 2 ^ 13 % 4 ≡ 2) × (2 ^ 32 ≤ value))) ∷ []
 own_rules p (register_write index value) = by 23 ((index ≡ 4) ⊎ (16 ≤ index)) ∷ []
-own_rules p (upgrade buffer) = by 2 (length buffer ≢ Record.LENGTH) ∷ []
-own_rules p (downgrade buffer) = by 2 (length buffer ≢ Old.LENGTH) ∷ by 27 ((2 ^ 32 ≤ p.tally.entries) ⊎ (2 ^ 32 ≤ p.tally.held)) ∷ []
 
--- ---- the two lengths of a record
+-- the bytes that the calls led to are no record that this call takes: never
+abbrev pub Untaken : Reference → Call → Type 0
+Untaken p c = ⊥
 
--- the call takes a record of the old length: upgrade alone
-abbrev pub takes_old : Call → Bool
-takes_old (setup block a b msr) = false
-takes_old (queue_event vector coded code) = false
-takes_old (inject_interrupt vector) = false
-takes_old (entry stack) = false
-takes_old (exit_report block) = false
-takes_old (apic_value value) = false
-takes_old (field_write encoding value) = false
-takes_old (register_write index value) = false
-takes_old (upgrade buffer) = true
-takes_old (downgrade buffer) = false
-
--- where it is accepted, it leaves one: downgrade alone
-abbrev pub leaves_old : Call → Bool
-leaves_old (setup block a b msr) = false
-leaves_old (queue_event vector coded code) = false
-leaves_old (inject_interrupt vector) = false
-leaves_old (entry stack) = false
-leaves_old (exit_report block) = false
-leaves_old (apic_value value) = false
-leaves_old (field_write encoding value) = false
-leaves_old (register_write index value) = false
-leaves_old (upgrade buffer) = false
-leaves_old (downgrade buffer) = true
-
--- the record has the old length: as the last accepted call left it
-abbrev pub old_step : Bool → Call → Bool → Bool
-old_step old c refused = cond refused old (leaves_old c)
-
-abbrev pub old_after : Bool → List Fed → Bool
-old_after old [] = old
-old_after old (l ∷ ls) = old_after (old_step old l.call l.refused) ls
-
--- 2 for the record comes first: it has the length that this call does not take
-abbrev pub rules : Bool → Reference → Call → List Rule
-rules old p c = by 2 (old ≢ takes_old c) ∷ own_rules p c
+-- 2 for the record comes first, whatever the call
+abbrev pub rules : Reference → Call → List Rule
+rules p c = by 2 (Untaken p c) ∷ own_rules p c

@@ -66,7 +66,7 @@ impl Refusal {
     // An APIC access.
     pub const APIC_ACCESS: u32 = 21;
 
-    // The entry count is 2⁶⁴ − 1.
+    // The entry count is 2³² − 1.
     pub const COUNT: u32 = 22;
 
     // The register's index is 4 or above 15.
@@ -80,7 +80,4 @@ impl Refusal {
 
     // An entry of the guest's page tables lies past the end of the memory lent.
     pub const MEMORY: u32 = 26;
-
-    // A count does not fit the 4 bytes that a record of the old length has for it.
-    pub const OLD_RECORD: u32 = 27;
 }

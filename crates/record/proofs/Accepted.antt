@@ -18,7 +18,7 @@ pub record Passed (b : List ℕ) : Type 0 where
   pub whole : length b ≡ Record.LENGTH
   pub phase : little_endian 1 (drop Record.PHASE b) ≤ 4
   pub launched : little_endian 1 (drop Record.LAUNCHED b) ≤ 1
-  pub held : little_endian 8 (drop Record.HELD b) ≤ little_endian 8 (drop Record.ENTRIES b)
+  pub held : little_endian 4 (drop Record.HELD b) ≤ little_endian 4 (drop Record.ENTRIES b)
   pub waiting : little_endian 1 (drop Record.WAITING b) ≤ 64
 
 pub passed : (b : List ℕ) → accepted_of b ≡ true → Passed b

@@ -5,7 +5,7 @@ use Prim.Native.Nat.{ℕ}
 
 -- how many bytes each part has
 abbrev pub sizes : List ℕ
-sizes = 1 ∷ 1 ∷ 8 ∷ 8 ∷ 128 ∷ 34 ∷ 200 ∷ 328 ∷ 368 ∷ 1 ∷ 64 ∷ 8 ∷ 256 ∷ 40 ∷ 16 ∷ 16 ∷ 8 ∷ 8 ∷ []
+sizes = 1 ∷ 1 ∷ 4 ∷ 4 ∷ 128 ∷ 34 ∷ 200 ∷ 328 ∷ 368 ∷ 1 ∷ 64 ∷ 8 ∷ 256 ∷ 40 ∷ 16 ∷ 16 ∷ 8 ∷ 8 ∷ []
 
 abbrev pub PHASE : ℕ
 PHASE = 0

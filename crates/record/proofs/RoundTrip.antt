@@ -39,8 +39,8 @@ module _ (s : Session) (f : Fitting s) where
       λ i.
       (number 1).sized s.progress.phase f.progress.phase i
       ∷ yes_no_lem.sized s.progress.launched tt i
-      ∷ (number 8).sized s.progress.entries f.progress.entries i
-      ∷ (number 8).sized s.progress.held f.progress.held i
+      ∷ (number 4).sized s.progress.entries f.progress.entries i
+      ∷ (number 4).sized s.progress.held f.progress.held i
       ∷ (numbers_codec 8 16).sized (list_of s.regs) f.regs i
       ∷ (numbers_codec 2 17).sized s.vmcs.w16 f.vmcs.w16 i
       ∷ (numbers_codec 4 50).sized s.vmcs.w32 f.vmcs.w32 i
@@ -83,8 +83,8 @@ module _ (s : Session) (f : Fitting s) where
   session_read =
       let phase = part_read (number 1) s.progress.phase _ _ f.progress.phase (from Part.PHASE) in
       let launched = part_read yes_no_lem s.progress.launched _ _ tt (from Part.LAUNCHED) in
-      let entries = part_read (number 8) s.progress.entries _ _ f.progress.entries (from Part.ENTRIES) in
-      let held = part_read (number 8) s.progress.held _ _ f.progress.held (from Part.HELD) in
+      let entries = part_read (number 4) s.progress.entries _ _ f.progress.entries (from Part.ENTRIES) in
+      let held = part_read (number 4) s.progress.held _ _ f.progress.held (from Part.HELD) in
       let regs = part_read (numbers_codec 8 16) (list_of s.regs) _ _ f.regs (from Part.REGS) in
       let w16 = part_read (numbers_codec 2 17) s.vmcs.w16 _ _ f.vmcs.w16 (from Part.W16) in
       let w32 = part_read (numbers_codec 4 50) s.vmcs.w32 _ _ f.vmcs.w32 (from Part.W32) in
@@ -113,8 +113,8 @@ module _ (s : Session) (f : Fitting s) where
   unfolding accepted_of flatten
   lawful_accepted l =
       let phase = part_read (number 1) s.progress.phase _ _ f.progress.phase (from Part.PHASE) in
-      let entries = part_read (number 8) s.progress.entries _ _ f.progress.entries (from Part.ENTRIES) in
-      let held = part_read (number 8) s.progress.held _ _ f.progress.held (from Part.HELD) in
+      let entries = part_read (number 4) s.progress.entries _ _ f.progress.entries (from Part.ENTRIES) in
+      let held = part_read (number 4) s.progress.held _ _ f.progress.held (from Part.HELD) in
       let waiting = part_read (number 1) s.queue.waiting _ _ f.queue.waiting (from Part.WAITING) in
       rw (
         eq-eqb _ _ length_encode_of,
@@ -148,8 +148,8 @@ module _ (b : List ℕ) (whole : length b ≡ Record.LENGTH) (bytes : Below 256 
       record {
         progress = record {
           phase = part_fits (number 1) Record.PHASE (lit≤ tt);
-          entries = part_fits (number 8) Record.ENTRIES (lit≤ tt);
-          held = part_fits (number 8) Record.HELD (lit≤ tt);
+          entries = part_fits (number 4) Record.ENTRIES (lit≤ tt);
+          held = part_fits (number 4) Record.HELD (lit≤ tt);
         };
         regs = subst (Numbers 16 8) (sym (registers_read (drop Record.REGS b))) (part_fits (numbers_codec 8 16) Record.REGS (lit≤ tt));
         vmcs = record {
@@ -180,8 +180,8 @@ module _ (b : List ℕ) (whole : length b ≡ Record.LENGTH) (bytes : Below 256 
       λ i.
       part_written (number 1) Record.PHASE (lit≤ tt) tt i
       ∷ part_written yes_no_lem Record.LAUNCHED (lit≤ tt) t.launched i
-      ∷ part_written (number 8) Record.ENTRIES (lit≤ tt) tt i
-      ∷ part_written (number 8) Record.HELD (lit≤ tt) tt i
+      ∷ part_written (number 4) Record.ENTRIES (lit≤ tt) tt i
+      ∷ part_written (number 4) Record.HELD (lit≤ tt) tt i
       ∷ (ap (flat_map (bytes_of 8)) (registers_read (drop Record.REGS b)) ∙ part_written (numbers_codec 8 16) Record.REGS (lit≤ tt) tt) i
       ∷ part_written (numbers_codec 2 17) Record.W16 (lit≤ tt) tt i
       ∷ part_written (numbers_codec 4 50) Record.W32 (lit≤ tt) tt i

@@ -40,8 +40,8 @@ session_of b =
       progress = record {
         phase = little_endian 1 (drop Record.PHASE b);
         launched = flag_of (drop Record.LAUNCHED b);
-        entries = little_endian 8 (drop Record.ENTRIES b);
-        held = little_endian 8 (drop Record.HELD b);
+        entries = little_endian 4 (drop Record.ENTRIES b);
+        held = little_endian 4 (drop Record.HELD b);
       };
       regs = of_list (numbers 8 16 (drop Record.REGS b));
       vmcs = record {
@@ -71,7 +71,7 @@ with_field s f x = with_vmcs s (put s.vmcs f x)
 -- ---- the bytes of a session: those of each part, in order. A new part goes to the end, so that no other moves
 
 abbrev pub progress_parts : Progress → List (List ℕ)
-progress_parts p = bytes_of 1 p.phase ∷ flag_bytes p.launched ∷ bytes_of 8 p.entries ∷ bytes_of 8 p.held ∷ []
+progress_parts p = bytes_of 1 p.phase ∷ flag_bytes p.launched ∷ bytes_of 4 p.entries ∷ bytes_of 4 p.held ∷ []
 
 abbrev pub reg_parts : GeneralRegisters → List (List ℕ)
 reg_parts g = number_bytes 8 (list_of g) ∷ []
@@ -104,7 +104,7 @@ accepted_of b =
     eqb (length b) Record.LENGTH
     && leb (little_endian 1 (drop Record.PHASE b)) 4
     && leb (little_endian 1 (drop Record.LAUNCHED b)) 1
-    && leb (little_endian 8 (drop Record.HELD b)) (little_endian 8 (drop Record.ENTRIES b))
+    && leb (little_endian 4 (drop Record.HELD b)) (little_endian 4 (drop Record.ENTRIES b))
     && leb (little_endian 1 (drop Record.WAITING b)) 64
 
 abbrev pub decoded : ℕ → Session → Decoded

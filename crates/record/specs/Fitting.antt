@@ -13,8 +13,8 @@ use Rattle.record.specs.Runs.{Run, Takes, Numbers}
 
 pub record ProgressFits (p : Progress) : Type 0 where
   pub phase : Takes 1 p.phase
-  pub entries : Takes 8 p.entries
-  pub held : Takes 8 p.held
+  pub entries : Takes 4 p.entries
+  pub held : Takes 4 p.held
 
 pub record VmcsFits (v : Vmcs) : Type 0 where
   pub w16 : Numbers 17 2 v.w16

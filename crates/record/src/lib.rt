@@ -23,7 +23,7 @@ use vmcs::controls::Pair;
 pub struct Record {}
 
 impl Record {
-    pub const LENGTH: usize = 1493;
+    pub const LENGTH: usize = 1485;
 
     // 1 byte, 0 to 4.
     pub const PHASE: usize = 0;
@@ -31,52 +31,52 @@ impl Record {
     // A yes/no byte: 1 is yes, 0 is no.
     pub const LAUNCHED: usize = 1;
 
-    // 8 bytes.
+    // 4 bytes.
     pub const ENTRIES: usize = 2;
 
-    // 8 bytes, at most the entries.
-    pub const HELD: usize = 10;
+    // 4 bytes, at most the entries.
+    pub const HELD: usize = 6;
 
     // 16 of 8 bytes, in the order of their encoding.
-    pub const REGS: usize = 18;
+    pub const REGS: usize = 10;
 
     // The fields of the VMCS by width, each in ascending order of encoding: 17 of 2 bytes.
-    pub const W16: usize = 146;
+    pub const W16: usize = 138;
 
     // 50 of 4 bytes.
-    pub const W32: usize = 180;
+    pub const W32: usize = 172;
 
     // 41 of 8 bytes.
-    pub const W64: usize = 380;
+    pub const W64: usize = 372;
 
     // 46 of 8 bytes.
-    pub const NATURAL: usize = 708;
+    pub const NATURAL: usize = 700;
 
     // How many events wait: 1 byte, at most 64.
-    pub const WAITING: usize = 1076;
+    pub const WAITING: usize = 1068;
 
     // 64 of 1 byte, the front first.
-    pub const VECTORS: usize = 1077;
+    pub const VECTORS: usize = 1069;
 
     // Whether each event has an error code: 8 bytes, bit i for place i.
-    pub const CODED: usize = 1141;
+    pub const CODED: usize = 1133;
 
     // 64 of 4 bytes.
-    pub const CODES: usize = 1149;
+    pub const CODES: usize = 1141;
 
     // The pairs of the control words, in the order pin, primary, secondary, exit, entry: 5 of allowed-0 (4 bytes) and allowed-1 (4 bytes).
-    pub const PAIRS: usize = 1405;
+    pub const PAIRS: usize = 1397;
 
     // Fixed-0 and fixed-1 of CR0, 8 bytes each.
-    pub const CR0: usize = 1445;
+    pub const CR0: usize = 1437;
 
     // Fixed-0 and fixed-1 of CR4, 8 bytes each.
-    pub const CR4: usize = 1461;
+    pub const CR4: usize = 1453;
 
     // XCR0, and the bits of it that the host supports: 8 bytes each.
-    pub const XCR0: usize = 1477;
+    pub const XCR0: usize = 1469;
 
-    pub const SUPPORTED: usize = 1485;
+    pub const SUPPORTED: usize = 1477;
 }
 
 // The session of a record, or a new one beside the number of the refusal.
@@ -97,8 +97,8 @@ pub fn accepts(b: &[u8]) -> bool
     }
     let phase = words::get1(b, Record::PHASE);
     let launched = words::get1(b, Record::LAUNCHED);
-    let entries = words::get8(b, Record::ENTRIES);
-    let held = words::get8(b, Record::HELD);
+    let entries = words::get4(b, Record::ENTRIES);
+    let held = words::get4(b, Record::HELD);
     let waiting = words::get1(b, Record::WAITING);
     (phase <= 4) & (launched <= 1) & (held <= entries) & (waiting <= 64)
 }
@@ -112,8 +112,8 @@ pub fn progress_at(b: &[u8]) -> Progress
     Progress {
         phase: words::get1(b, Record::PHASE),
         launched: words::get_flag(b, Record::LAUNCHED),
-        entries: words::get8(b, Record::ENTRIES),
-        held: words::get8(b, Record::HELD),
+        entries: words::get4(b, Record::ENTRIES),
+        held: words::get4(b, Record::HELD),
     }
 }
 
@@ -341,8 +341,8 @@ fn put_progress(b: &mut [u8], p: Progress)
 {
     words::put1(b, Record::PHASE, p.phase);
     words::put_flag(b, Record::LAUNCHED, p.launched);
-    words::put8(b, Record::ENTRIES, p.entries);
-    words::put8(b, Record::HELD, p.held);
+    words::put4(b, Record::ENTRIES, p.entries);
+    words::put4(b, Record::HELD, p.held);
 }
 
 fn put_regs(b: &mut [u8], g: GeneralRegisters)

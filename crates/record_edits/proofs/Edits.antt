@@ -143,20 +143,20 @@ module _ {b : List ℕ} {s : Session} (h : Spells b s) where
         bytes = value_put h Part.LAUNCHED (lit< tt) yes_no_lem s.progress.launched x refl e;
       }
 
-  with_entries_lem : {after : List ℕ} (x : ℕ) → Takes 8 x → after ≡ sets b Record.ENTRIES (bytes_of 8 x) → Spells after (with_progress s (with_entries s.progress x))
+  with_entries_lem : {after : List ℕ} (x : ℕ) → Takes 4 x → after ≡ sets b Record.ENTRIES (bytes_of 4 x) → Spells after (with_progress s (with_entries s.progress x))
   unfolding encode_of
   with_entries_lem x small e =
       record {
         fits = progress_fits_lem h.fits (record { phase = h.fits.progress.phase; entries = small; held = h.fits.progress.held });
-        bytes = value_put h Part.ENTRIES (lit< tt) (number 8) s.progress.entries x refl e;
+        bytes = value_put h Part.ENTRIES (lit< tt) (number 4) s.progress.entries x refl e;
       }
 
-  with_held_lem : {after : List ℕ} (x : ℕ) → Takes 8 x → after ≡ sets b Record.HELD (bytes_of 8 x) → Spells after (with_progress s (with_held s.progress x))
+  with_held_lem : {after : List ℕ} (x : ℕ) → Takes 4 x → after ≡ sets b Record.HELD (bytes_of 4 x) → Spells after (with_progress s (with_held s.progress x))
   unfolding encode_of
   with_held_lem x small e =
       record {
         fits = progress_fits_lem h.fits (record { phase = h.fits.progress.phase; entries = h.fits.progress.entries; held = small });
-        bytes = value_put h Part.HELD (lit< tt) (number 8) s.progress.held x refl e;
+        bytes = value_put h Part.HELD (lit< tt) (number 4) s.progress.held x refl e;
       }
 
   -- the queue: how many wait, which have a code, value i of a part, and the n values after the first moved down by one
@@ -256,7 +256,7 @@ module _ (b : List ℕ) (ok : accepted_of b ≡ true) (known : (i : ℕ) → Fit
 
   pub progress_held : {b₁ b₂ b₃ b₄ : List ℕ} (p : Progress) → ProgressFits p → p.phase ≤ 4 → p.held ≤ p.entries
       → b₁ ≡ sets b Record.PHASE (bytes_of 1 p.phase) → b₂ ≡ sets b₁ Record.LAUNCHED (flag_bytes p.launched)
-      → b₃ ≡ sets b₂ Record.ENTRIES (bytes_of 8 p.entries) → b₄ ≡ sets b₃ Record.HELD (bytes_of 8 p.held)
+      → b₃ ≡ sets b₂ Record.ENTRIES (bytes_of 4 p.entries) → b₄ ≡ sets b₃ Record.HELD (bytes_of 4 p.held)
       → Holds b₄ (with_progress (session_of b) p)
   progress_held p f phase counts e₁ e₂ e₃ e₄ =
       let two = with_launched_lem (with_phase own p.phase f.phase e₁) p.launched e₂ in

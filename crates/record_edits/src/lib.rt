@@ -29,8 +29,8 @@ pub fn put_progress(b: &mut [u8], p: Progress)
 {
     words::put1(b, Record::PHASE, p.phase);
     words::put_flag(b, Record::LAUNCHED, p.launched);
-    words::put8(b, Record::ENTRIES, p.entries);
-    words::put8(b, Record::HELD, p.held);
+    words::put4(b, Record::ENTRIES, p.entries);
+    words::put4(b, Record::HELD, p.held);
 }
 
 // ---- Registers.

@@ -18,7 +18,7 @@ VMX_PREEMPTION_TIMER_SET_VALUE = 1000000
 
 -- the entry count at which no further entry is accepted (refusal 22)
 abbrev pub LAST_ENTRY : ℕ
-LAST_ENTRY = 0xFFFFFFFFFFFFFFFF
+LAST_ENTRY = 0xFFFFFFFF
 
 abbrev pub no_fixed : Fixed
 no_fixed = record { fixed0 = 0; fixed1 = 0 }

@@ -12,7 +12,7 @@ use vmcs::controls::Pair;
 pub const VMX_PREEMPTION_TIMER_SET_VALUE: u32 = 1_000_000;
 
 // The entry count at which no further entry is accepted (refusal 22).
-pub const LAST_ENTRY: u64 = 0xFFFF_FFFF_FFFF_FFFF;
+pub const LAST_ENTRY: u32 = 0xFFFF_FFFF;
 
 // The phases of a session, by document 01's names and numbers.
 #[derive(Drop)]
@@ -35,8 +35,8 @@ impl Phase {
 pub struct Progress {
     pub phase: u8,
     pub launched: bool,
-    pub entries: u64,
-    pub held: u64,
+    pub entries: u32,
+    pub held: u32,
 }
 
 // The waiting events, the front at place 0: how many, their vectors, whether each has an error code (bit i for place i), and the codes. Places

@@ -16,4 +16,4 @@ accepts-spec =
     (λ c κs. search rules)
     (λ c κs. search rules)
     (λ c κs. search rules)
-    (λ c. search (answers, ← c.get13.ensures, ← c.before.get82.ensures, ← c.before.before.get8.ensures, ← c.before.before.before.get12.ensures, ← c.before.before.before.before.get1.ensures)))
+    (λ c. search (answers, ← c.get13.ensures, ← c.before.get42.ensures, ← c.before.before.get4.ensures, ← c.before.before.before.get12.ensures, ← c.before.before.before.before.get1.ensures)))

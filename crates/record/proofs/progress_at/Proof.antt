@@ -13,4 +13,4 @@ progress-at-spec =
     (λ c κs. search rules)
     (λ c κs. search rules)
     (λ c κs. search rules)
-    (λ c. rw (c.before.before.before.get1.ensures, c.before.before.get-flag.ensures, c.before.get8.ensures, c.get82.ensures)))
+    (λ c. rw (c.before.before.before.get1.ensures, c.before.before.get-flag.ensures, c.before.get4.ensures, c.get42.ensures)))

@@ -16,4 +16,4 @@ put-progress-spec =
     (λ c κs. search rules)
     (λ c κs. search rules)
     (λ c. search rules)
-    (λ c. (rw (c.before.before.put82.ensures, c.before.before.before.before.before.before.put8.ensures, c.before.before.before.before.before.before.before.before.before.before.put-flag.ensures, c.before.before.before.before.before.before.before.before.before.before.before.before.before.before.put1.ensures), fits c.before.before.before.before.before.before.before.before.before.before.before.before.before.before.before.before.before)))
+    (λ c. (rw (c.before.before.put42.ensures, c.before.before.before.before.before.before.put4.ensures, c.before.before.before.before.before.before.before.before.before.before.put-flag.ensures, c.before.before.before.before.before.before.before.before.before.before.before.before.before.before.put1.ensures), fits c.before.before.before.before.before.before.before.before.before.before.before.before.before.before.before.before.before)))

@@ -18,7 +18,7 @@ stores c =
     let first = second.before.before.before.before in
     let t = first.before.before in
     progress_held _ t.before.requires.0 t.slice-known.given t.before.args.p (fits t.before) t.before.requires.1 t.before.requires.2
-    first.put1.ensures second.put-flag.ensures third.put8.ensures last.put82.ensures
+    first.put1.ensures second.put-flag.ensures third.put4.ensures last.put42.ensures
 
 pub put-progress-spec : {M : Type 1} → statement M
 put-progress-spec =

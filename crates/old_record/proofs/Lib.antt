@@ -1,2 +1,0 @@
-pub mod Conversions
-pub mod Copies

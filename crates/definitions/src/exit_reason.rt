@@ -213,6 +213,7 @@ const EXIT_REASONS: [u32; 67] = [
 ];
 
 // Every name in the order of its number: the contract ties each to its number.
+#[tactic(auto, unfolding(crate::specs::ExitReasons::exit_reasons))]
 pub fn exit_reasons() -> [u32; 67]
     ensures { result ≡ exit_reasons }
 {

@@ -1,6 +1,8 @@
 // Exit reasons, interruption types and the word of an event.
 // Ported from x86_vcpu src/vmx/definitions.rs and VmxInterruptInfo of src/vmx/vmcs.rs (Copyright 2025 The Axvisor Team, Apache-2.0).
 // Changed: exit reasons are numbers, the texts of VM-instruction errors are left out, and vectors 1 and 21 are hardware exceptions, 21 with an error code.
+#![tactic(auto)]
+
 ghost use Rattle.std.specs.Prelude.{◌≡◌};
 ghost use Rattle.definitions.specs.Interruption.{type_number, type_of, has_error_code, from_vector, is_soft, event_word};
 
@@ -39,6 +41,7 @@ pub enum VmxInterruptionType {
 }
 
 // The number of a type in an interruption word.
+#[tactic(auto, unfolding(crate::specs::Interruption::type_number))]
 pub fn type_number(int_type: VmxInterruptionType) -> u32
     ensures { result ≡ type_number int_type }
 {
@@ -55,6 +58,7 @@ pub fn type_number(int_type: VmxInterruptionType) -> u32
 }
 
 // The type of an interruption word.
+#[tactic(auto, unfolding(crate::specs::Interruption::type_of))]
 pub fn type_of(word: u32) -> VmxInterruptionType
     ensures { result ≡ type_of word }
 {
@@ -98,6 +102,7 @@ pub fn vector_has_error_code(vector: u8) -> bool
 }
 
 // The type with which an event of this vector is injected.
+#[tactic(auto, unfolding(crate::specs::Interruption::from_vector))]
 pub fn from_vector(vector: u8) -> VmxInterruptionType
     ensures { result ≡ from_vector vector }
 {
@@ -120,6 +125,7 @@ pub fn from_vector(vector: u8) -> VmxInterruptionType
 }
 
 // The types whose injection takes an instruction length: software interrupt, software exception, privileged software exception.
+#[tactic(auto, unfolding(crate::specs::Interruption::is_soft))]
 pub fn is_soft(int_type: VmxInterruptionType) -> bool
     ensures { result ≡ is_soft int_type }
 {

@@ -1,0 +1,14 @@
+use mathlib.Core.Path.{refl}
+use Prim.Native.Nat.{◌-◌}
+use native.Mathlib.Omega.{arith}
+use lib.ListN.{length}
+use borrow.Author.Rules.{rules}
+use Rattle.bits.specs.LittleEndian.{little_endian}
+use Rattle.record.proofs.Loops.{Filled, filled_none, filled_more, filled_all}
+use Rattle.record.proofs.words.get_all2.Given as goal
+
+abbrev pub invariant-loop-i : goal.invariant-loop-i
+invariant-loop-i l = Filled 2 (little_endian 2) l.b l.at (length l.initial.out) l.out l.i l.from
+
+abbrev pub decreases-loop-i : goal.decreases-loop-i
+decreases-loop-i l = length l.initial.out - l.i

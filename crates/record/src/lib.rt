@@ -453,7 +453,7 @@ fn put_capabilities(b: &mut [u8], c: Capabilities)
 fn put_xcr0(b: &mut [u8], x: Xcr0)
     requires { length b.old ≡ LENGTH }
     ensures b_after { b.new ≡ stored_at (XCR0 ∷ SUPPORTED ∷ []) (xcr0_parts x) b.old }
-    ensures xcr0fits { Xcr0Fits x }
+    ensures xcr0_fits { Xcr0Fits x }
 {
     words::put8(b, Record::XCR0, x.value);
     words::put8(b, Record::SUPPORTED, x.supported);

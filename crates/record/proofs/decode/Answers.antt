@@ -1,5 +1,4 @@
 use borrow.Author.Rules.{rules}
-use Rattle.bits.proofs.Tests.{answers}
 use Rattle.record.specs.Codec.{decode_of}
 use Rattle.record.proofs.Accepted.{accepted_length}
 use Rattle.record.proofs.decode.Goals as goal

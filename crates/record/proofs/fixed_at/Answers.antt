@@ -1,5 +1,4 @@
 use lib.Seq.{drop-drop}
-use borrow.Author.Rules.{rules}
 use Rattle.record.specs.Codec.{fixed_of}
 use Rattle.record.proofs.fixed_at.Goals as goal
 

@@ -1,5 +1,4 @@
 use lib.Seq.{drop-drop}
-use borrow.Author.Rules.{rules}
 use Rattle.record.specs.Codec.{pair_of}
 use Rattle.record.proofs.pair_at.Goals as goal
 

@@ -1,10 +1,7 @@
 use mathlib.Core.Path.{refl}
-use Prim.Native.Nat.{◌-◌}
 use native.Mathlib.Omega.{arith}
-use borrow.Author.Rules.{rules}
-use Rattle.record.specs.Record as Record
-use Rattle.record.specs.Codec.{pair_of, session_of}
-use Rattle.record.proofs.Loops.{Filled, filled_none, filled_more, filled_all}
+use Rattle.record.specs.Codec.{session_of}
+use Rattle.record.proofs.Loops.{filled_none, filled_more}
 use Rattle.record.proofs.pairs_at.Goals as goal
 
 pub loop-i-init : goal.loop-i-init

@@ -1,10 +1,7 @@
-use mathlib.Core.Path.{refl}
 use Prim.Native.Nat.{◌-◌}
-use native.Mathlib.Omega.{arith}
-use borrow.Author.Rules.{rules}
 use Rattle.record.specs.Record as Record
-use Rattle.record.specs.Codec.{pair_of, session_of}
-use Rattle.record.proofs.Loops.{Filled, filled_none, filled_more, filled_all}
+use Rattle.record.specs.Codec.{pair_of}
+use Rattle.record.proofs.Loops.{Filled}
 use Rattle.record.proofs.pairs_at.Given as goal
 
 abbrev pub invariant-loop-i : goal.invariant-loop-i

@@ -1,15 +1,10 @@
 use mathlib.Core.Path.{◌≡◌}
 use Prim.Native.Nat.{◌-◌}
-use native.Mathlib.Omega.{arith}
 use lib.ListN.{length}
-use borrow.Author.Rules.{rules}
-use Rattle.vmcs.specs.Control.{no_pair}
 use Rattle.record.specs.Record as Record
 use Rattle.record.specs.Fitting.{PairFits}
 use Rattle.record.specs.Codec.{pair_bytes}
-use Rattle.record.proofs.Codecs.{length_pair_bytes}
-use Rattle.record.proofs.Loops.{Stored, stored_none, stored_more, stored_all, stored_fits}
-use Rattle.record.proofs.Owned.{owned}
+use Rattle.record.proofs.Loops.{Stored}
 use Rattle.record.proofs.put_pairs.Given as goal
 
 abbrev pub invariant-loop-i : goal.invariant-loop-i

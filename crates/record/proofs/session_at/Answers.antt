@@ -1,4 +1,3 @@
-use borrow.Author.Rules.{rules}
 use Rattle.record.specs.Codec.{session_of}
 use Rattle.record.proofs.session_at.Goals as goal
 

@@ -1,10 +1,7 @@
-use mathlib.Core.Path.{refl}
 use Prim.Native.Nat.{◌-◌}
-use native.Mathlib.Omega.{arith}
 use lib.ListN.{length}
-use borrow.Author.Rules.{rules}
 use Rattle.bits.specs.LittleEndian.{little_endian}
-use Rattle.record.proofs.Loops.{Filled, filled_none, filled_more, filled_all}
+use Rattle.record.proofs.Loops.{Filled}
 use Rattle.record.proofs.words.get_all2.Given as goal
 
 abbrev pub invariant-loop-i : goal.invariant-loop-i

@@ -1,10 +1,6 @@
 use mathlib.Core.Path.{refl}
-use Prim.Native.Nat.{◌-◌}
 use native.Mathlib.Omega.{arith}
-use lib.ListN.{length}
-use borrow.Author.Rules.{rules}
-use Rattle.bits.specs.LittleEndian.{little_endian}
-use Rattle.record.proofs.Loops.{Filled, filled_none, filled_more, filled_all}
+use Rattle.record.proofs.Loops.{filled_none, filled_more}
 use Rattle.record.proofs.words.get_all4.Goals as goal
 
 pub loop-i-init : goal.loop-i-init

@@ -1,4 +1,3 @@
-use borrow.Author.Rules.{rules}
 use Rattle.record.proofs.Stores.{stored_halves}
 use Rattle.record.proofs.words.put8.Goals as goal
 

@@ -1,10 +1,6 @@
-use Prim.Native.Nat.{◌-◌}
 use native.Mathlib.Omega.{arith}
-use lib.ListN.{length}
-use borrow.Author.Rules.{rules}
-use Rattle.bits.specs.LittleEndian.{bytes_of}
 use Rattle.bits.proofs.LittleEndianLaws.{length_bytes_of}
-use Rattle.record.proofs.Loops.{Any, Stored, stored_none, stored_more, stored_all}
+use Rattle.record.proofs.Loops.{stored_none, stored_more}
 use Rattle.record.proofs.words.put_all2.Goals as goal
 
 pub loop-i-init : goal.loop-i-init

@@ -1,10 +1,7 @@
 use Prim.Native.Nat.{◌-◌}
-use native.Mathlib.Omega.{arith}
 use lib.ListN.{length}
-use borrow.Author.Rules.{rules}
 use Rattle.bits.specs.LittleEndian.{bytes_of}
-use Rattle.bits.proofs.LittleEndianLaws.{length_bytes_of}
-use Rattle.record.proofs.Loops.{Any, Stored, stored_none, stored_more, stored_all}
+use Rattle.record.proofs.Loops.{Any, Stored}
 use Rattle.record.proofs.words.put_all4.Given as goal
 
 abbrev pub invariant-loop-i : goal.invariant-loop-i

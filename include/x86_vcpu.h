@@ -25,7 +25,7 @@ extern "C" {
 #endif
 
 /* The kit that built the archive with which this header is handed out, as `rt version` prints it. */
-#define VCPU_KIT "rattle-kit-5b logic 064da1ca440f63e7"
+#define VCPU_KIT "rattle-kit-13f logic dac8208d650f15bf"
 
 /* ---- Numbers of refusals ---- */
 

@@ -1,10 +1,11 @@
 #!/usr/bin/env python3
-"""Turns the repository's crates into a Rust workspace: contracts and ghost lines go, plain data becomes Copy, nothing else
-changes. For runs and for mutants, with overflow checks on; it proves nothing.
+"""Turns the repository's crates into a Rust workspace: contracts, ghost lines and hints for proofs go, plain data becomes
+Copy, nothing else changes. For runs and for mutants, with overflow checks on; it proves nothing.
 
 usage: strip.py REPOSITORY OUT
 
-The kit's crates io, os, bytes, libc and check are replaced by those of tools/kit. The crate x86_vcpu is also built as a shared library.
+The kit's crates io, os, bytes, libc and check are replaced by those of tools/kit. The crate of the exports is
+built as a shared library.
 """
 
 import re
@@ -13,7 +14,7 @@ import sys
 from pathlib import Path
 
 KIT = Path(__file__).resolve().parent / "kit"
-EXPORTED = "x86_vcpu"
+EXPORTED = "x86_vcpu_c"
 WORKSPACE = """[workspace]
 resolver = "2"
 members = [{members}]
@@ -32,7 +33,7 @@ def dependencies(repository):
         line = line.split("#")[0].strip()
         if line:
             name, _, rest = line.partition(":")
-            crates[name.strip()] = rest.split()
+            crates[name.split()[0]] = rest.split()
     return crates
 
 
@@ -54,6 +55,7 @@ def without_clauses(text):
 def stripped(text):
     """A Rattle file as Rust."""
     text = re.sub(r"^ghost use [^;]*;\n", "", text, flags=re.M)
+    text = re.sub(r"^[ \t]*#!?\[(?:tactic|cycle|derive)\b.*?\]\n", "", text, flags=re.M | re.S)
     text = without_clauses(text)
     derive = r"\1#[derive(Clone, Copy, Debug, PartialEq, Eq)]\n\1\2"
     return re.sub(r"^(\s*)((?:pub )?(?:struct|enum) )", derive, text, flags=re.M)
@@ -70,7 +72,7 @@ def strip_file(source, target):
 def manifest(name, crates):
     lines = ["[package]", f'name = "{name}"', 'version = "0.0.0"', 'edition = "2021"', ""]
     if name == EXPORTED:
-        lines += ["[lib]", 'crate-type = ["rlib", "cdylib"]', ""]
+        lines += ["[lib]", 'name = "x86_vcpu"', 'crate-type = ["cdylib"]', ""]
     lines += ["[lints.rust]", 'warnings = "allow"', "", "[dependencies]"]
     lines += [f'{d} = {{ path = "../{d}" }}' for d in crates.get(name, [])]
     return "\n".join(lines) + "\n"

@@ -1,27 +1,31 @@
 #!/usr/bin/env python3
-"""Tests that the C interface says what the calls say: usage tools/exports.py (in the repository's root).
+"""Tests that the C interface says what the calls say: usage tools/exports.py (in the repository's
+root).
 
-Each function of crates/x86_vcpu_c has the name, module, parameters and clauses of one of crates/x86_vcpu,
-and its body is the call of that one with its own arguments in their order. Each public function of
-crates/x86_vcpu whose name begins with vcpu_ is exported. Each `ghost use` of a name that the clauses have
-in common is the same. Prints what is wrong; the exit status is then 1.
+Each function of crates/x86_vcpu_c has the name, module, parameters and clauses of one of
+crates/x86_vcpu, and its body is the call of that one with its own arguments in their order. Each
+public function of crates/x86_vcpu whose name begins with vcpu_ is exported. What both files import
+under one name is the same. Prints what is wrong; the exit status is then 1.
 """
 import glob
 import os
 import re
 import sys
 
-FUNCTION = re.compile(r'((?:#\[[^\n]*\]\n)*)pub (extern "C" )?fn (vcpu_\w+)\((.*?)\) -> (\w+)\n(.*?)\n\{\n(.*?)\n\}\n', re.S)
+FUNCTION = re.compile(
+    r'((?:#\[[^\n]*\]\n)*)pub (extern "C" )?fn (vcpu_\w+)\((.*?)\) -> (\w+)\n(.*?)\n\{\n(.*?)\n\}\n', re.S
+)
+GHOST = re.compile(r"^ghost use ([\w.]+)\.\{(.*)\};$", re.M)
 MARK = "#[unsafe(no_mangle)]\n"
 
 
 def functions(crate):
-    """By module and name: attributes, linkage, parameters, result, clauses, body, and where the file's names are from."""
+    """By module and name: attributes, linkage, parameters, result, clauses, body, and imports."""
     found = {}
     for path in sorted(glob.glob("crates/%s/src/*.rt" % crate)):
         text = open(path).read()
         module = os.path.basename(path)[: -len(".rt")]
-        origin = {n: place for place, listed in re.findall(r"^ghost use ([\w.]+)\.\{(.*)\};$", text, re.M) for n in listed.split(", ")}
+        origin = {n: place for place, listed in GHOST.findall(text) for n in listed.split(", ")}
         for attributes, linkage, name, given, result, clauses, body in FUNCTION.findall(text):
             parameters = [p.split(": ") for p in re.split(r",\s+(?=\w+: )", given.strip().rstrip(","))]
             found[module, name] = attributes, linkage, parameters, result, clauses, body, origin

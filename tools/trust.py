@@ -1,7 +1,7 @@
 #!/usr/bin/env python3
 """Prints the two tables of docs/TRUST.md.
 
-Usage: tools/trust.py [--list] (in the repository's root). The first table counts what must be read: the definitions in specs/ that the contracts of
+Usage: tools/trust.py [--list | --write] (in the repository's root). With --write they go to the end of the page. The first table counts what must be read: the definitions in specs/ that the contracts of
 the exported functions name, and those that they name in turn, and so for each of the statements beside them. The
 second has each library crate's functions and lines. Lines are those with content; blank ones and comments do not count. With --list it prints the definitions of the first table.
 """
@@ -9,6 +9,7 @@ import os
 import re
 import sys
 
+PAGE = "docs/TRUST.md"
 EXPORTS = "crates/x86_vcpu_c/src"
 LISTS = ["crates/calls/specs/DemandThree.antt", "crates/calls/specs/CallContracts.antt"]
 CAPABILITY_WORDS = ["crates/calls/specs/CapabilityWords.antt"]
@@ -178,19 +179,24 @@ def main():
                 print(path, reading.modules[path].blocks[number][0].strip())
             print("types:", *sorted("%s::%s" % each for each in reading.types), "\n")
         return
-    print("| to believe | definitions | lines | generated names | types of the code | in all |\n|---|---|---|---|---|---|")
-    print(contracts.row("the contracts of the %d exported functions" % functions))
-    print(lists.row("`whole_list`, and that its steps are the contracts"))
-    print(words.row("`not_looked_at` and `older_board`"))
-    print(trials.row("`six_trials`, beside the calls"))
-    print(walks.row("`session_walks`, beside the reading"))
-    print(edits.row("`two_hands`, beside the edits and setup"))
-    crates = [line.split(":")[0] for line in open("crates.txt") if re.match(r"[a-z0-9_]+:", line)]
+    lines = ["| to believe | definitions | lines | generated names | types of the code | in all |", "|---|---|---|---|---|---|"]
+    lines.append(contracts.row("the contracts of the %d exported functions" % functions))
+    lines.append(lists.row("`whole_list`, and that its steps are the contracts"))
+    lines.append(words.row("`not_looked_at` and `older_board`"))
+    lines.append(trials.row("`six_trials`, beside the calls"))
+    lines.append(walks.row("`session_walks`, beside the reading"))
+    lines.append(edits.row("`two_hands`, beside the edits and setup"))
+    crates = re.findall(r"^([a-z0-9_]+)(?: staticlib)?:", open("crates.txt").read(), re.M)
     rows = [crate_row(name) for name in crates if not os.path.exists(f"crates/{name}/src/main.rt")]
-    print("\n| crate | functions | code | definitions | proofs |\n|---|---|---|---|---|")
-    for row in rows:
-        print("| `%s` | %d | %d | %d | %d |" % row)
-    print("| all | %d | %d | %d | %d |" % tuple(sum(row[i] for row in rows) for i in range(1, 5)))
+    lines += ["", "| crate | functions | code | definitions | proofs |", "|---|---|---|---|---|"]
+    lines += ["| `%s` | %d | %d | %d | %d |" % row for row in rows]
+    lines.append("| all | %d | %d | %d | %d |" % tuple(sum(row[i] for row in rows) for i in range(1, 5)))
+    text = "\n".join(lines) + "\n"
+    if "--write" in sys.argv:
+        page = open(PAGE).read()
+        open(PAGE, "w").write(page[: page.index("| to believe")] + text)
+    else:
+        print(text, end="")
 
 
 if __name__ == "__main__":

@@ -1,10 +1,10 @@
 #!/usr/bin/env python3
 """Turns the repository's crates into a Rust workspace: contracts, ghost lines and hints for proofs go, plain data becomes
-Copy, nothing else changes. For runs and for mutants, with overflow checks on; it proves nothing.
+Copy, and what reads and prints does so by tools/kit. For runs and for mutants, with overflow checks on; it proves nothing.
 
 usage: strip.py REPOSITORY OUT
 
-The kit's crates io, os, bytes, libc and check are replaced by those of tools/kit. The crate of the exports is
+tools/kit has the crate rattle, which stands for what Rattle's library has and Rust's has otherwise. The crate of the exports is
 built as a shared library.
 """
 
@@ -57,8 +57,12 @@ def stripped(text):
     text = re.sub(r"^ghost use [^;]*;\n", "", text, flags=re.M)
     text = re.sub(r"^[ \t]*#!?\[(?:tactic|cycle|derive)\b.*?\]\n", "", text, flags=re.M | re.S)
     text = without_clauses(text)
+    text = re.sub(r"\bstd::(io|fs)\b", r"rattle::\1", text)
+    text = text.replace("fn fmt<W: fmt::Write>(&self, f: &mut Formatter<W>)", "fn fmt(&self, f: &mut Formatter)")
+    text = re.sub(r"^fn main\((\w+): HostRuntime\)(.*)\{$", r"fn main()\2{ let \1 = HostRuntime;", text, flags=re.M)
     derive = r"\1#[derive(Clone, Copy, Debug, PartialEq, Eq)]\n\1\2"
-    return re.sub(r"^(\s*)((?:pub )?(?:struct|enum) )", derive, text, flags=re.M)
+    text = re.sub(r"^(\s*)((?:pub )?(?:struct|enum) )", derive, text, flags=re.M)
+    return "use rattle::{print, println, HostRuntime, Print};\n" + text
 
 
 def strip_file(source, target):
@@ -74,14 +78,15 @@ def manifest(name, crates):
     if name == EXPORTED:
         lines += ["[lib]", 'name = "x86_vcpu"', 'crate-type = ["cdylib"]', ""]
     lines += ["[lints.rust]", 'warnings = "allow"', "", "[dependencies]"]
-    lines += [f'{d} = {{ path = "../{d}" }}' for d in crates.get(name, [])]
+    needed = crates[name] + ["rattle"] * (name != "rattle")
+    lines += [f'{d} = {{ path = "../{d}" }}' for d in needed]
     return "\n".join(lines) + "\n"
 
 
 def strip_all(repository, out):
     """The whole repository; returns the crates with their dependencies."""
     crates = dependencies(repository)
-    crates.update({"libc": [], "check": [], "io": ["libc"], "os": [], "bytes": []})
+    crates["rattle"] = []
     out.mkdir(parents=True, exist_ok=True)
     members = []
     for name in crates:

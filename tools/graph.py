@@ -30,8 +30,8 @@ def listed():
 def named(crate, crates):
     """The crates that the files of a crate name, and the kit's libraries. A module of the crate may have the name of a crate."""
     found, modules, of_kit = set(), set(), {u for _, uses in crates.values() for u in uses}
-    for path in glob.glob("crates/%s/**/*" % crate, recursive=True):
-        if path.endswith((".rt", ".antt")):
+    for path in glob.glob("crates/%s/*/**/*" % crate, recursive=True):
+        if path.endswith((".rt", ".antt")) and path.split("/")[2] != "out":
             text = re.sub(r"(//|--) .*", "", open(path).read())
             found.update(re.findall(r"Rattle\.(\w+)", text))
             if path.endswith(".rt"):

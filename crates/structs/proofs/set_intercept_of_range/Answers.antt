@@ -1,0 +1,11 @@
+use mathlib.Core.Path.{sym, ap, ◌∙◌}
+use native.Mathlib.Omega.{arith}
+use borrow.Author.Rules.{rules}
+use borrow.Author.Tests.{ne_eqb}
+use Rattle.structs.specs.Frames.{IOBitmap, set_ports, edit_ports}
+use Rattle.structs.proofs.PortLaws.{port_accepted}
+use Rattle.structs.proofs.set_intercept_of_range.Goals as goal
+
+pub set_ports-requires : goal.set_ports-requires
+set_ports-requires c = let k = port_accepted _ _ _ _ c.port_refusal-refusal.ensures c.if-refusal-ne0.false in
+    (k.0, k.1, omega (arith, k.2 (omega arith)))

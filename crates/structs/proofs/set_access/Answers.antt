@@ -1,9 +1,5 @@
 use mathlib.Core.Path.{sym, ◌∙◌}
-use native.Mathlib.Nat.{add-sub_cancel_left}
 use native.Mathlib.Omega.{arith}
-use borrow.Author.Rules.{rules}
-use Rattle.bits.proofs.Tests.{tests}
-use Rattle.structs.specs.Frames.{set_msrs, edit_msrs}
 use Rattle.structs.proofs.MsrLaws.{quarter_le, msr_accepted}
 use Rattle.structs.proofs.set_access.Goals as goal
 

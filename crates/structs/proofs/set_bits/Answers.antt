@@ -1,6 +1,5 @@
 use Prim.Native.Nat.{◌+◌, ◌*◌, ◌/◌}
 use native.Mathlib.Omega.{arith}
-use borrow.Author.Rules.{rules}
 use Rattle.structs.proofs.BitmapLaws.{three_ranges}
 use Rattle.structs.proofs.set_bits.Goals as goal
 

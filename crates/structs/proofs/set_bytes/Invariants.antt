@@ -1,11 +1,7 @@
-use mathlib.Core.Path.{◌≡◌, refl, ap, ◌∙◌}
-use mathlib.Core.List.{List}
-use Prim.Native.Nat.{ℕ, ◌≤◌, ◌-◌, ◌*◌}
-use native.Mathlib.Omega.{arith}
-use lib.ListN.{length, set, length-set}
-use borrow.Author.Rules.{rules}
-use Rattle.structs.specs.Bitmap.{full_byte, set_bits}
-use Rattle.structs.proofs.BitmapLaws.{no_bits, next_byte}
+use mathlib.Core.Path.{◌≡◌}
+use Prim.Native.Nat.{◌≤◌, ◌-◌, ◌*◌}
+use lib.ListN.{length}
+use Rattle.structs.specs.Bitmap.{set_bits}
 use Rattle.structs.proofs.set_bytes.Given as goal
 
 abbrev pub invariant-loop-i : goal.invariant-loop-i

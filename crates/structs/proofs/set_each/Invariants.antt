@@ -1,10 +1,7 @@
-use mathlib.Core.Path.{◌≡◌, refl, ap, ◌∙◌}
-use mathlib.Core.List.{List}
-use Prim.Native.Nat.{ℕ, ◌≤◌, ◌-◌}
-use native.Mathlib.Omega.{arith}
-use lib.ListN.{length, length-set}
-use Rattle.structs.specs.Bitmap.{set_bit, set_bits}
-use Rattle.structs.proofs.BitmapLaws.{no_bits, next_bit}
+use mathlib.Core.Path.{◌≡◌}
+use Prim.Native.Nat.{◌≤◌, ◌-◌}
+use lib.ListN.{length}
+use Rattle.structs.specs.Bitmap.{set_bits}
 use Rattle.structs.proofs.set_each.Given as goal
 
 abbrev pub invariant-loop-n : goal.invariant-loop-n

@@ -1,8 +1,5 @@
 use mathlib.Core.Path.{sym}
 use native.Mathlib.Omega.{arith}
-use borrow.Author.Rules.{rules}
-use borrow.Author.Tests.{ne_eqb}
-use Rattle.structs.specs.Frames.{edit_ports}
 use Rattle.structs.proofs.PortLaws.{port_accepted}
 use Rattle.structs.proofs.PartLaws.{part_length, one_port_a, one_port_b}
 use Rattle.structs.proofs.set_intercept.Goals as goal

@@ -1,8 +1,4 @@
-use mathlib.Core.Path.{sym, ap, ◌∙◌}
 use native.Mathlib.Omega.{arith}
-use borrow.Author.Rules.{rules}
-use borrow.Author.Tests.{ne_eqb}
-use Rattle.structs.specs.Frames.{IOBitmap, set_ports, edit_ports}
 use Rattle.structs.proofs.PortLaws.{port_accepted}
 use Rattle.structs.proofs.set_intercept_of_range.Goals as goal
 

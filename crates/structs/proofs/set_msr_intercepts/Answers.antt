@@ -1,6 +1,5 @@
 use mathlib.Core.Path.{ap}
 use mathlib.Core.List.{[], ◌∷◌}
-use borrow.Author.Rules.{rules}
 use Rattle.structs.specs.declared.Access.TheVariants.{Read, Write}
 use Rattle.structs.specs.Frames.{MsrEdit}
 use Rattle.structs.proofs.MsrLaws.{msr_append}

@@ -1,7 +1,5 @@
 use mathlib.Core.Path.{sym}
 use Prim.Native.Nat.{◌+◌}
-use native.Mathlib.Omega.{arith}
-use borrow.Author.Rules.{rules}
 use Rattle.structs.proofs.PortLaws.{past_a, set_ports_frames}
 use Rattle.structs.proofs.set_ports.Goals as goal
 

@@ -1,4 +1,3 @@
-use borrow.Author.Rules.{rules}
 use Rattle.bits.proofs.WithBit.{shifted_one, or_writes, and_writes}
 use Rattle.structs.proofs.with_bit.Goals as goal
 

@@ -7,5 +7,6 @@ pub returns-in_default : goal.returns-in_default
 unfolding greatest_of
 returns-in_default c =
     let e = c.width_of.ensures in
-    let w : width_of c.args.encoding ≡ 64 = width_64 _ (λ p. let q : c.width_of.result ≡ 16 = e ∙ p in search q) (λ p. let q : c.width_of.result ≡ 32 = e ∙ p in search q) in
+    let r = c.in_default.in_default-own.rest in
+    let w : width_of c.args.encoding ≡ 64 = width_64 _ (λ p. r.0.1 (e ∙ p)) (λ p. r.1 (e ∙ p)) in
     rw w

@@ -1,6 +1,5 @@
 use Prim.Native.Nat.{◌/◌, ◌^◌, ◌<◌}
 use native.Mathlib.Omega.{arith}
-use borrow.Author.Rules.{rules}
 use Rattle.bits.proofs.Tests.{tests}
 use Rattle.vmcs.specs.Lookup.{lookup}
 use Rattle.vmcs.proofs.Lookup.{start_small, lookup_right}

@@ -1,6 +1,5 @@
 use mathlib.Core.Path.{ap, ◌∙◌}
 use lib.Bits.{bit_and, bit_or}
-use borrow.Author.Rules.{rules}
 use Rattle.bits.specs.Words.{bit_not}
 use Rattle.bits.proofs.WithBit.{shifted_one, or_writes, and_writes}
 use Rattle.vcpu_events.proofs.with_coded.Goals as goal

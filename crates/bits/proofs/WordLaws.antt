@@ -1,15 +1,15 @@
 -- Laws of `Within`, `Apart` and `Permitted`, at any width, and the equations of words that they are.
 -- Assumes nothing.
-use mathlib.Core.Path.{◌≡◌, refl, sym, ap, ◌∙◌, subst}
+use mathlib.Core.Path.{◌≡◌, refl, ap}
 use mathlib.Core.Bool.{Bool, true, false, not, ◌&&◌, ◌||◌}
-use Prim.Native.Nat.{ℕ, zero, suc, ◌+◌, ◌-◌, ◌*◌, ◌/◌, ◌%◌, ◌^◌, ◌<◌}
+use Prim.Native.Nat.{ℕ, zero, suc, ◌*◌, ◌/◌, ◌%◌, ◌^◌, ◌<◌}
 use lib.Bits.{bit_and, bit_or}
 use lib.Dec.{T, eqb, T_not, not_T, eqb→eq}
 use lib.Pow.{pow_mono, pow_pos}
 use borrow.Author.Tests.{eq-eqb, ne_eqb}
 use native.Mathlib.Nat.{div-eq_of_lt, div_self, lt_of_lt_of_le, lt_of_not-le, pow-suc, mul-mod_left}
 use native.Mathlib.Omega.{arith}
-use Rattle.bits.specs.Words.{bit_not, bit, flag, Within, Apart, Permitted}
+use Rattle.bits.specs.Words.{bit_not, bit, flag, Within, Apart}
 use Rattle.bits.proofs.BitLaws.{is_flag, bit-and, bit-or, bit-not, bit_of_zero, bit_zero, bit_suc, same_bits}
 
 -- ---- tests

@@ -1,4 +1,6 @@
 // The halves of 64-bit words. The vocabulary of definitions and the laws of bits are in specs/ and proofs/.
+#![tactic(auto)]
+
 ghost use Rattle.std.specs.Prelude.{◌≡◌};
 ghost use Rattle.bits.specs.Words.{low32, high32, join32};
 

@@ -5,7 +5,7 @@ use Prim.Native.Nat.{ℕ, ◌/◌, ◌%◌, ◌^◌, ◌<◌}
 use lib.Dec.{T, eqb, ltb, eqb→eq, ltb→lt}
 use Rattle.bits.specs.Words.{bit}
 use Rattle.bits.proofs.AllBelow.{at}
-use Rattle.bits.proofs.WordLaws.{and_l, and_r, is_true}
+use Rattle.bits.proofs.WordLaws.{is_true}
 use Rattle.definitions.specs.Interruption.{type_number, from_vector, event_word, EventBits}
 
 abbrev reads : Bool → ℕ → Bool

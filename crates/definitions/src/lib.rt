@@ -28,7 +28,7 @@ impl InterruptionBits {
 const VALID: u32 = 1 << InterruptionBits::VALID;
 
 // The interruption type, bits 8 to 10 of an interruption word (SDM 3C, 25.8.3 and 25.9.2).
-#[derive(Drop)]
+#[derive(Clone, Copy)]
 pub enum VmxInterruptionType {
     External,
     Reserved,

@@ -55,7 +55,7 @@ impl Entry {
 }
 
 // The guest-physical address; or the level and the first rule that its entry breaks; or refusal 26, an entry lies past the end of memory.
-#[derive(Drop)]
+#[derive(Clone, Copy)]
 pub enum Walked {
     Address(u64),
     Fails { level: u8, rule: u8 },
@@ -63,7 +63,7 @@ pub enum Walked {
 }
 
 // After an entry: the walk's end, or the table below and whether every entry so far lets the user in.
-#[derive(Drop)]
+#[derive(Clone, Copy)]
 enum Next {
     Ends(Walked),
     Below { table: u64, user: bool },

@@ -80,7 +80,7 @@ impl Record {
 }
 
 // The session of a record, or a new one beside the number of the refusal.
-#[derive(Drop)]
+#[derive(Clone, Copy)]
 pub struct Decoded {
     pub refusal: u32,
     pub session: Session,

@@ -1,3 +1,2 @@
 pub mod Parts
-pub mod Walk
 pub mod Index

@@ -9,6 +9,7 @@ use crate::{GeneralRegisters, RegAnswer};
 use definitions::Refusal;
 
 // 23: index 4, or above 15; or 0.
+#[tactic(auto, unfolding(crate::specs::Accessors::index_refusal))]
 pub fn index_refusal(index: u64) -> u32
     ensures { result ≡ index_refusal index }
 {

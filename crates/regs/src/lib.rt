@@ -1,6 +1,8 @@
 // The general-purpose registers by value.
 // Ported from x86_vcpu src/regs/mod.rs and src/regs/accessors.rs (Copyright 2025 The Axvisor Team, Apache-2.0). Changed: access by index
 // takes and returns the registers by value, judges the whole index and refuses where the Rust panics; narrow names (eax, al, ..) are left out.
+#![tactic(auto)]
+
 pub mod accessors;
 
 ghost use Rattle.std.specs.Prelude.{◌≡◌};
@@ -8,7 +10,7 @@ ghost use Rattle.regs.specs.Registers.{list_of, of_list, reg_of_index, with_reg_
 
 // In the order of their encoding in an instruction.
 #[repr(C)]
-#[derive(Drop)]
+#[derive(Clone, Copy)]
 pub struct GeneralRegisters {
     pub rax: u64,
     pub rcx: u64,
@@ -30,14 +32,14 @@ pub struct GeneralRegisters {
 }
 
 // A register's value, or the number of the refusal.
-#[derive(Drop)]
+#[derive(Clone, Copy)]
 pub enum RegAnswer {
     Value(u64),
     Refused(u32),
 }
 
 // The registers after a write: as they were where it is refused.
-#[derive(Drop)]
+#[derive(Clone, Copy)]
 pub struct RegWritten {
     pub refusal: u32,
     pub regs: GeneralRegisters,

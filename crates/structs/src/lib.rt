@@ -192,7 +192,7 @@ pub fn set_intercept(a: &mut [u8], b: &mut [u8], port: u32, intercept: bool) -> 
 }
 
 // An access to an MSR.
-#[derive(Drop)]
+#[derive(Clone, Copy)]
 pub enum Access {
     Read,
     Write,

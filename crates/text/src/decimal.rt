@@ -3,6 +3,7 @@ ghost use Rattle.std.specs.Prelude.{◌≡◌, ◌<◌};
 ghost use Rattle.text.specs.Decimal.{decimal_column, decimal_in};
 
 // The digit of a place, which is a power of ten, or a blank where the number is below the place.
+#[tactic(auto, unfolding(crate::specs::Decimal::decimal_column))]
 fn column(place: u64, n: u64) -> u8
     requires { 0 < place }
     ensures { result ≡ decimal_column place n }

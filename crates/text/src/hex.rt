@@ -3,12 +3,13 @@ ghost use Rattle.std.specs.Prelude.{◌≡◌, ◌≤◌, ◌<◌, length};
 ghost use Rattle.text.specs.Hex.{hex_digit, hex_digits, digit_value, hex_number};
 
 // What digits spell.
-#[derive(Drop)]
+#[derive(Clone, Copy)]
 pub enum Parsed {
     Number(u32),
     Malformed,
 }
 
+#[tactic(auto, unfolding(crate::specs::Hex::hex_digit))]
 fn digit(d: u32) -> u8
     requires { d < 16 }
     ensures { result ≡ hex_digit d }
@@ -36,6 +37,7 @@ pub fn digits(w: u32) -> [u8; 8]
 }
 
 // The value of a digit, and 16 for a byte that is none.
+#[tactic(auto, unfolding(crate::specs::Hex::digit_value))]
 fn digit_value(b: u8) -> u32
     ensures { result ≡ digit_value b }
 {

@@ -17,7 +17,7 @@ const QEMU_EXIT_PORT: u16 = 0x604;
 const QEMU_EXIT_MAGIC: u64 = 0x2000;
 
 // What the host is to do. The names are those of the crate axvcpu, but ApicRead and ApicWrite, which are document 01's. Widths are in bytes.
-#[derive(Drop)]
+#[derive(Clone, Copy)]
 pub enum AxVCpuExitReason {
     // The exit is dealt with: the next entry may follow.
     Nothing,

@@ -10,7 +10,7 @@ use vcpu_session::{Phase, Progress, Session};
 use vmcs::flags::{Cr0Flags, RFlags};
 
 // An event: a vector and, if one is given, an error code. The code is 0 where none is given.
-#[derive(Drop)]
+#[derive(Clone, Copy)]
 pub struct Event {
     pub vector: u8,
     pub coded: bool,
@@ -18,14 +18,14 @@ pub struct Event {
 }
 
 // The refusal or 0, and the session: as it was where the call is refused.
-#[derive(Drop)]
+#[derive(Clone, Copy)]
 pub struct Answered {
     pub refusal: u32,
     pub session: Session,
 }
 
 // What an entry does with the front of the queue: the queue is empty, the event is held back, or its word is written.
-#[derive(Drop)]
+#[derive(Clone, Copy)]
 pub enum Injection {
     Empty,
     Held,
@@ -33,7 +33,7 @@ pub enum Injection {
 }
 
 // What an entry answers. Where it is refused, only the number counts.
-#[derive(Drop)]
+#[derive(Clone, Copy)]
 pub struct Entered {
     pub refusal: u32,
     pub resumed: bool,

@@ -16,7 +16,7 @@ use vmcs::flags::{Cr0Flags, XCr0Flags};
 use vmcs::names::{VmcsControl32, VmcsControlNW, VmcsGuestNW};
 
 // The four words of CPUID.
-#[derive(Drop)]
+#[derive(Clone, Copy)]
 pub struct CpuidWords {
     pub eax: u32,
     pub ebx: u32,
@@ -25,7 +25,7 @@ pub struct CpuidWords {
 }
 
 // What an exit reports: the general registers, the guest's fields, the exit words, and the host's CPUID words for the guest's EAX and ECX.
-#[derive(Drop)]
+#[derive(Clone, Copy)]
 pub struct Report {
     pub regs: GeneralRegisters,
     pub rip: u64,

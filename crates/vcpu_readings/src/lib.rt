@@ -8,7 +8,7 @@ use definitions::Refusal;
 use vmcs::flags::{AccessRights, Cr0Flags, Cr4Flags, EferFlags};
 
 // The mode of the guest's CPU.
-#[derive(Drop)]
+#[derive(Clone, Copy)]
 pub enum VmCpuMode {
     Real,
     Protected,
@@ -17,7 +17,7 @@ pub enum VmCpuMode {
 }
 
 // What a walk of the guest's page tables starts from.
-#[derive(Drop)]
+#[derive(Clone, Copy)]
 pub struct GuestPageWalkInfo {
     pub top_entry: u64,
     pub level: u8,
@@ -33,7 +33,7 @@ pub struct GuestPageWalkInfo {
 }
 
 // The fields of the guest that its paging depends on.
-#[derive(Drop)]
+#[derive(Clone, Copy)]
 pub struct PagingWords {
     pub cr0: u64,
     pub cr3: u64,
@@ -43,7 +43,7 @@ pub struct PagingWords {
 }
 
 // An address, or the number of the refusal.
-#[derive(Drop)]
+#[derive(Clone, Copy)]
 pub enum AddressAnswer {
     Value(u64),
     Refused(u32),

@@ -13,7 +13,7 @@ use vcpu_exit::Report;
 use vcpu_session::{Phase, Session};
 
 // The refusal or 0, the answer, and the session: as it was where the report is refused, and then only the number counts.
-#[derive(Drop)]
+#[derive(Clone, Copy)]
 pub struct Reported {
     pub refusal: u32,
     pub answer: AxVCpuExitReason,

@@ -31,7 +31,7 @@ impl Phase {
 }
 
 // Where a session stands: its phase, whether it was launched, its accepted entries, and those of them that held an event.
-#[derive(Drop)]
+#[derive(Clone, Copy)]
 pub struct Progress {
     pub phase: u8,
     pub launched: bool,
@@ -41,7 +41,7 @@ pub struct Progress {
 
 // The waiting events, the front at place 0: how many, their vectors, whether each has an error code (bit i for place i), and the codes. Places
 // past the last event are zero in every session that the operations make.
-#[derive(Drop)]
+#[derive(Clone, Copy)]
 pub struct Queue {
     pub waiting: u8,
     pub vectors: [u8; 64],
@@ -50,7 +50,7 @@ pub struct Queue {
 }
 
 // The bits of a control register that must be 1 (fixed-0), and those that may be (fixed-1).
-#[derive(Drop)]
+#[derive(Clone, Copy)]
 pub struct Fixed {
     pub fixed0: u64,
     pub fixed1: u64,
@@ -58,7 +58,7 @@ pub struct Fixed {
 
 // What the processor allows, kept from setup: the pairs of the five control words (pin, primary, secondary, exit, entry), and the fixed bits
 // of CR0 and CR4.
-#[derive(Drop)]
+#[derive(Clone, Copy)]
 pub struct Capabilities {
     pub pairs: [Pair; 5],
     pub cr0: Fixed,
@@ -66,13 +66,13 @@ pub struct Capabilities {
 }
 
 // The guest's XCR0, and the bits of it that the host supports, kept from setup.
-#[derive(Drop)]
+#[derive(Clone, Copy)]
 pub struct Xcr0 {
     pub value: u64,
     pub supported: u64,
 }
 
-#[derive(Drop)]
+#[derive(Clone, Copy)]
 pub struct Session {
     pub progress: Progress,
     pub regs: GeneralRegisters,

@@ -27,7 +27,7 @@ use vmcs::names::{
 };
 
 // The capability MSRs, whole (SDM 3D, appendix A), by number: 0x480 to 0x484, 0x486 to 0x489, 0x48B, 0x48D to 0x490.
-#[derive(Drop)]
+#[derive(Clone, Copy)]
 pub struct CapabilityMsrs {
     pub basic: u64,
     pub pinbased: u64,
@@ -46,7 +46,7 @@ pub struct CapabilityMsrs {
 }
 
 // The host's state that setup_vmcs_host reads, in its order.
-#[derive(Drop)]
+#[derive(Clone, Copy)]
 pub struct HostWords {
     pub pat: u64,
     pub efer: u64,
@@ -69,7 +69,7 @@ pub struct HostWords {
 }
 
 // What CPUID offers the guest.
-#[derive(Drop)]
+#[derive(Clone, Copy)]
 pub struct Features {
     pub rdtscp: bool,
     pub invpcid: bool,
@@ -77,7 +77,7 @@ pub struct Features {
 }
 
 // Physical addresses: the EPT root, and the frames of I/O bitmap A, I/O bitmap B and the MSR bitmaps.
-#[derive(Drop)]
+#[derive(Clone, Copy)]
 pub struct Addresses {
     pub eptroot: u64,
     pub bitmapa: u64,
@@ -85,7 +85,7 @@ pub struct Addresses {
     pub bitmapmsr: u64,
 }
 
-#[derive(Drop)]
+#[derive(Clone, Copy)]
 pub struct Arguments {
     pub host: HostWords,
     pub entry: u64,
@@ -290,7 +290,7 @@ fn set_crs(v: Vmcs, cr0: CrWords, cr4: CrWords) -> Vmcs
 }
 
 // The places of a segment's four fields.
-#[derive(Drop)]
+#[derive(Clone, Copy)]
 struct Segment {
     selector: usize,
     base: usize,

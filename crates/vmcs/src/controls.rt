@@ -10,14 +10,14 @@ use crate::flags::{Cr0Flags, Cr4Flags, EferFlags, EntryControls};
 use definitions::Refusal;
 
 // What a control word may be: the bits that must be 1, and those that may be.
-#[derive(Drop)]
+#[derive(Clone, Copy)]
 pub struct Pair {
     pub allowed0: u32,
     pub allowed1: u32,
 }
 
 // A control word, or the number of the refusal.
-#[derive(Drop)]
+#[derive(Clone, Copy)]
 pub enum ControlAnswer {
     Word(u32),
     Refused(u32),
@@ -72,7 +72,7 @@ pub fn all_permitted(pairs: [Pair; 5], words: [u32; 5]) -> bool
 }
 
 // A guest control register: its value, its read shadow and its guest/host mask.
-#[derive(Drop)]
+#[derive(Clone, Copy)]
 pub struct CrWords {
     pub value: u64,
     pub shadow: u64,
@@ -129,7 +129,7 @@ pub fn cr4_words(fixed0: u64, fixed1: u64, val: u64) -> CrWords
 }
 
 // EFER and the entry controls after paging is turned on: as they were where it is refused.
-#[derive(Drop)]
+#[derive(Clone, Copy)]
 pub struct EferUpdate {
     pub refusal: u32,
     pub efer: u64,

@@ -28,7 +28,7 @@ const CR_REGISTER: u64 = 8;
 const CR_LMSW_SOURCE: u64 = 16;
 
 // The exit reason (SDM 3C, 25.9.1).
-#[derive(Drop)]
+#[derive(Clone, Copy)]
 pub struct VmxExitInfo {
     // The entry failed, and no guest code ran.
     pub entry_failure: bool,
@@ -37,7 +37,7 @@ pub struct VmxExitInfo {
 }
 
 // An interruption word (SDM 3C, 25.9.2).
-#[derive(Drop)]
+#[derive(Clone, Copy)]
 pub struct VmxInterruptInfo {
     pub vector: u8,
     pub int_type: VmxInterruptionType,
@@ -47,7 +47,7 @@ pub struct VmxInterruptInfo {
 }
 
 // The qualification of an I/O exit (SDM 3C, table 28-5).
-#[derive(Drop)]
+#[derive(Clone, Copy)]
 pub struct VmxIoExitInfo {
     // In bytes.
     pub access_size: u8,
@@ -58,7 +58,7 @@ pub struct VmxIoExitInfo {
 }
 
 // The qualification of an access to a control register (SDM 3C, table 28-3).
-#[derive(Drop)]
+#[derive(Clone, Copy)]
 pub struct CrAccessInfo {
     pub cr_number: u8,
     // 0 is a move to the register, 1 a move from it, 2 CLTS, 3 LMSW.

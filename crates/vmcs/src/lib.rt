@@ -15,7 +15,7 @@ pub mod table;
 use definitions::Refusal;
 
 // The fields by width, each array in ascending order of encoding.
-#[derive(Drop)]
+#[derive(Clone, Copy)]
 pub struct Vmcs {
     pub w16: [u16; 17],
     pub w32: [u32; 50],
@@ -24,14 +24,14 @@ pub struct Vmcs {
 }
 
 // What a field holds, or the number of the refusal.
-#[derive(Drop)]
+#[derive(Clone, Copy)]
 pub enum FieldAnswer {
     Value(u64),
     Refused(u32),
 }
 
 // The fields after a write: as they were where it is refused.
-#[derive(Drop)]
+#[derive(Clone, Copy)]
 pub struct Written {
     pub refusal: u32,
     pub vmcs: Vmcs,

@@ -1,6 +1,8 @@
 // The three intercept frames, I/O bitmaps A and B and the MSR bitmaps, and the EPT pointer.
 // Ported from x86_vcpu src/vmx/structs.rs (Copyright 2025 The Axvisor Team, Apache-2.0). Changed: the frames are the caller's slices, all
 // 4,096 bytes of an I/O bitmap are reached, a range is written by whole bytes, and an edit that cannot be made answers a number.
+#![tactic(auto)]
+
 ghost use Rattle.std.specs.Prelude.{◌≡◌, [], ◌∷◌, ◌+◌, ◌-◌, ◌*◌, ◌≤◌, ◌<◌, min, length};
 ghost use Rattle.bits.specs.Words.{with_bit};
 ghost use Rattle.structs.specs.Bitmap.{full_byte, set_bits};
@@ -34,6 +36,7 @@ fn with_bit(k: u8, v: bool, byte: u8) -> u8
 }
 
 // The byte with all its bits v.
+#[tactic(auto, unfolding(crate::specs::Bitmap::full_byte))]
 pub fn full_byte(v: bool) -> u8
     ensures { result ≡ full_byte v }
 {
@@ -41,6 +44,7 @@ pub fn full_byte(v: bool) -> u8
 }
 
 // Sets the bits from..to of the frame to v, a bit at a time.
+#[tactic(auto, unfolding(crate::specs::Bitmap::set_bit))]
 fn set_each(frame: &mut [u8], from: usize, to: usize, v: bool)
     requires { (from ≤ to) × (to ≤ 8 * length frame.old) }
     ensures { frame.new ≡ set_bits frame.old from (to - from) v }
@@ -100,6 +104,7 @@ fn part_from<'a>(s: &'a [u8], n: usize) -> &'a [u8]
 
 // The part of A or of B that holds a port, from the port's byte to the frame's end. Where a frame has another length, or the port is
 // above 65,535, the empty end of B.
+#[tactic(auto, unfolding(crate::specs::Frames::port_index, crate::specs::PortPart::port_part))]
 pub fn port_part<'a>(a: &'a [u8], b: &'a [u8], port: u32) -> &'a [u8]
     ensures { record { bytes = result.now; at = result.ref_ptr } ≡ port_part a.entry b.entry port }
 {
@@ -132,6 +137,7 @@ fn set_ports(a: &mut [u8], b: &mut [u8], from: usize, count: usize, v: bool)
 }
 
 // The refusal of an edit of count ports from port_base on, in frames of these lengths, or 0.
+#[tactic(auto, unfolding(crate::specs::Frames::port_refusal))]
 pub fn port_refusal(len_a: usize, len_b: usize, port_base: u32, count: u32) -> u32
     ensures { result ≡ port_refusal len_a len_b port_base count }
 {
@@ -151,6 +157,7 @@ pub fn port_refusal(len_a: usize, len_b: usize, port_base: u32, count: u32) -> u
 }
 
 // Sets the intercepts of count ports from port_base on (IOBitmap::set_intercept_of_range).
+#[tactic(auto, unfolding(crate::specs::Frames::edit_ports, crate::specs::Frames::set_ports))]
 pub fn set_intercept_of_range(
     a: &mut [u8],
     b: &mut [u8],
@@ -173,6 +180,7 @@ pub fn set_intercept_of_range(
 
 // Sets the intercept of one port (IOBitmap::set_intercept). The part that holds it is picked and read; the byte is stored in the frame
 // itself, since after a store through a `&mut` part nothing would be known of the two frames.
+#[tactic(auto, unfolding(crate::specs::Frames::edit_ports))]
 pub fn set_intercept(a: &mut [u8], b: &mut [u8], port: u32, intercept: bool) -> u32
     ensures { record { refusal = result; a = a.new; b = b.new } ≡ edit_ports a.old b.old port 1 intercept }
 {
@@ -199,6 +207,7 @@ pub enum Access {
 }
 
 // The quarter of the MSR bitmap that holds an access to an MSR.
+#[tactic(auto, unfolding(crate::specs::Frames::quarter_of))]
 fn quarter(access: Access, msr: usize) -> usize
     ensures { result ≡ quarter_of access msr }
 {
@@ -209,6 +218,7 @@ fn quarter(access: Access, msr: usize) -> usize
 }
 
 // The refusal of an edit of the MSRs from..to, in a frame of this length, or 0.
+#[tactic(auto, unfolding(crate::specs::Frames::msr_refusal))]
 pub fn msr_refusal(len: usize, from: usize, to: usize) -> u32
     ensures { result ≡ msr_refusal len from to }
 {
@@ -228,6 +238,7 @@ pub fn msr_refusal(len: usize, from: usize, to: usize) -> u32
 }
 
 // Sets the intercepts of one access to count MSRs from msr_base on (MsrBitmap::set_intercept).
+#[tactic(auto, unfolding(crate::specs::Frames::edit_msrs, crate::specs::Frames::set_msrs))]
 fn set_access(frame: &mut [u8], access: Access, msr_base: u32, count: u32, intercept: bool) -> u32
     ensures { record { refusal = result; frame = frame.new } ≡ edit_msrs frame.old msr_base count (access ∷ []) intercept }
 {
@@ -281,6 +292,7 @@ const ENABLE_ACCESSED_DIRTY: u64 = 1 << 6;
 const PAGE_SIZE: u64 = 4096;
 
 // The EPT pointer of the table at an address (EPTPointer::from_table_phys).
+#[tactic(auto, unfolding(crate::specs::EPTPointer::ept_pointer))]
 pub fn ept_pointer(root: u64) -> u64
     ensures { result ≡ ept_pointer root }
 {

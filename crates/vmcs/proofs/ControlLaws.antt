@@ -1,6 +1,6 @@
 -- The laws of a control word, at any width: what an accepted word holds, when each refusal comes, and that
 -- setting or clearing one flexible bit of a permitted word leaves it permitted. Assumes nothing.
-use mathlib.Core.Path.{◌≡◌, refl, sym, ap, ◌∙◌}
+use mathlib.Core.Path.{◌≡◌, refl}
 use mathlib.Core.Bool.{Bool, true, false, not, cond, ◌&&◌}
 use mathlib.Core.List.{List}
 use Prim.Native.Nat.{ℕ, zero, suc, ◌^◌, ◌<◌}
@@ -13,7 +13,6 @@ use borrow.Author.Tests.{eqb-true, eqb-false}
 use Rattle.bits.specs.Words.{bit_not, bit, Within, Apart, Permitted}
 use Rattle.vmcs.specs.Control.{control_word, set_control, word_permitted, all_permitted, pair_at, Accepted, Answers, Outcome, six, seven, eight, nine, accepted, EachPermitted}
 use Rattle.vmcs.specs.declared.controls.Pair.{Pair}
-use Rattle.vmcs.specs.declared.controls.ControlAnswer.{ControlAnswer}
 use Rattle.vmcs.specs.declared.controls.ControlAnswer.TheVariants.{Word, Refused}
 use Rattle.bits.proofs.BitLaws.{bit-and, bit-or, bit-not}
 use Rattle.bits.proofs.WordLaws as W

@@ -6,7 +6,7 @@ use Prim.Native.Nat.{ℕ, ◌^◌, ◌<◌}
 use lib.Bits.{bit_and, bit_or}
 use lib.Dec.{T, lit<}
 use Rattle.bits.specs.Words.{bit_not, bit, Within, PermittedBut}
-use Rattle.vmcs.specs.Cr.{cr0_free, cr0_off, cr_words, cr0_words, cr4_words}
+use Rattle.vmcs.specs.Cr.{cr0_free, cr0_off, cr0_words, cr4_words}
 use Rattle.bits.proofs.WordLaws as W
 use Rattle.bits.proofs.WordLaws.{words}
 

@@ -1,6 +1,6 @@
 -- Control words, at any width: the result of `set_control`, its refusals, and which words a pair permits (document 01, "Control words";
 -- SDM 3D, A.2 to A.5; the Rust cites 31.5.1, algorithm 3, of an older edition). Assumes nothing.
-use Rattle.std.specs.Prelude.{ℕ, ◌<◌, ◌≡◌, Bool, cond, not, ◌&&◌, List, [], ◌∷◌, T, eqb, get_or}
+use Rattle.std.specs.Prelude.{ℕ, ◌<◌, ◌≡◌, Bool, cond, not, ◌&&◌, List, T, eqb, get_or}
 use Rattle.std.specs.Int.Bits.{bit_and, bit_or}
 use Rattle.bits.specs.Words.{bit_not, bit, Within, Apart, Permitted}
 use Rattle.vmcs.specs.declared.controls.Pair.{Pair}

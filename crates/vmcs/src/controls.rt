@@ -24,6 +24,7 @@ pub enum ControlAnswer {
 }
 
 // The word with the bits of set set and those of clear cleared: what is flexible and neither keeps its old value (SDM 3D, A.2 to A.5; the Rust cites 31.5.1, algorithm 3, of an older edition).
+#[tactic(auto, unfolding(crate::specs::Control::control_word))]
 pub fn control_word(pair: Pair, old: u32, set: u32, clear: u32) -> u32
     ensures { result ≡ control_word 32 pair.allowed0 pair.allowed1 old set clear }
 {
@@ -35,6 +36,7 @@ pub fn control_word(pair: Pair, old: u32, set: u32, clear: u32) -> u32
 
 // Refusals: 6, allowed-0 has a bit that allowed-1 lacks; 7, set and clear share a bit; 8, a set bit is not in allowed-1; 9, a cleared
 // bit is in allowed-0.
+#[tactic(auto, unfolding(crate::specs::Control::set_control))]
 pub fn set_control(pair: Pair, old: u32, set: u32, clear: u32) -> ControlAnswer
     ensures { result ≡ set_control 32 pair.allowed0 pair.allowed1 old set clear }
 {
@@ -137,6 +139,7 @@ pub struct EferUpdate {
 }
 
 // LME and LMA are both set.
+#[tactic(auto, unfolding(crate::specs::Efer::is_long_mode))]
 fn is_long_mode(efer: u64) -> bool
     ensures { result ≡ is_long_mode efer }
 {
@@ -144,6 +147,7 @@ fn is_long_mode(efer: u64) -> bool
         & ((efer >> EferFlags::LONG_MODE_ACTIVE) % 2 == 1)
 }
 
+#[tactic(auto, unfolding(crate::specs::Efer::lacks_ia32e))]
 fn lacks_ia32e(pair: Pair) -> bool
     ensures { result ≡ lacks_ia32e pair.allowed1 }
 {
@@ -152,6 +156,7 @@ fn lacks_ia32e(pair: Pair) -> bool
 
 // Unless LME and LMA are both set: LMA is set, unnamed bits of EFER go, and the entry word gets IA-32e mode guest. Refusal 8: the pair does
 // not allow that.
+#[tactic(auto, unfolding(crate::specs::Efer::update_efer))]
 pub fn update_efer(pair: Pair, efer: u64, entry: u32) -> EferUpdate
     ensures { result ≡ update_efer pair efer entry }
 {

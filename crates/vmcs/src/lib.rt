@@ -1,6 +1,8 @@
 // The VMCS: its fields, control words, control registers and exit words.
 // Ported from x86_vcpu src/vmx/vmcs.rs (Copyright 2025 The Axvisor Team, Apache-2.0). Changed: fields are values in four arrays
 // and not reached by vmread and vmwrite, and what the Rust panics at is refused by a number.
+#![tactic(auto)]
+
 ghost use Rattle.std.specs.Prelude.{◌≡◌, ◌<◌, ◌^◌, ◌-◌};
 ghost use Rattle.vmcs.specs.Field.{width_bits, value_of, put};
 ghost use Rattle.vmcs.specs.Named.{encodings};
@@ -39,6 +41,7 @@ pub struct Written {
 
 // The place of an encoding in the table, or 154 where it has none. The fields of a width and kind have the indexes from 0 on
 // without a gap, except that no field is 0x482C, so 0x482E is tested by itself.
+#[tactic(auto, unfolding(crate::specs::Lookup::lookup))]
 pub fn position(encoding: u64) -> usize
     ensures { result ≡ position_of encodings encoding }
 {
@@ -61,6 +64,7 @@ pub fn position(encoding: u64) -> usize
 
 // The width in bits of an encoding's field, by ranges of encodings, an arm for each section of SDM 3D, appendix B. The natural
 // width is 64. A number above 0x7FFF encodes no field and has no width: the 64 given there means nothing.
+#[tactic(auto, unfolding(crate::specs::Fields::width_of))]
 pub fn width_of(encoding: u64) -> u32
     ensures { result ≡ width_of encoding }
 {
@@ -77,6 +81,7 @@ pub fn width_of(encoding: u64) -> u32
 }
 
 // The greatest number that a field of an encoding holds.
+#[tactic(auto, unfolding(crate::specs::Fields::greatest_of))]
 fn greatest_of(encoding: u64) -> u64
     ensures { result ≡ greatest_of encoding }
 {
@@ -95,6 +100,7 @@ fn read_only(encoding: u64) -> bool
 }
 
 // What the field at a place of the table holds.
+#[tactic(auto, unfolding(crate::specs::Fields::field_at))]
 fn value_at(v: Vmcs, place: usize) -> u64
     requires { place < 154 }
     ensures { result ≡ value_of v (field_at place) }
@@ -112,6 +118,7 @@ fn value_at(v: Vmcs, place: usize) -> u64
 }
 
 // The fields with a value in the one at a place of the table.
+#[tactic(auto, unfolding(crate::specs::Fields::field_at))]
 fn put_at(v: Vmcs, place: usize, value: u64) -> Vmcs
     requires { (place < 154) × (value < 2 ^ width_bits (field_at place)) }
     ensures { result ≡ put v (field_at place) value }
@@ -134,6 +141,7 @@ fn put_at(v: Vmcs, place: usize, value: u64) -> Vmcs
 }
 
 // A field by its encoding. Refusal 3: no such encoding.
+#[tactic(auto, unfolding(crate::specs::Fields::vmcs_read))]
 pub fn vmcs_read(v: Vmcs, encoding: u64) -> FieldAnswer
     ensures { result ≡ vmcs_read v encoding }
 {
@@ -145,6 +153,7 @@ pub fn vmcs_read(v: Vmcs, encoding: u64) -> FieldAnswer
 }
 
 // Why a write of a value is refused, or 0. Refusals: 3, no such encoding; 4, read-only; 5, the value is wider than the field.
+#[tactic(auto, unfolding(crate::specs::Fields::write_refusal))]
 pub fn write_refusal(encoding: u64, value: u64) -> u32
     ensures { result ≡ write_refusal encoding value }
 {

@@ -27,6 +27,7 @@ pub const ENCODINGS: [u64; 154] = [
 ];
 
 // The table by value.
+#[tactic(auto, unfolding(crate::specs::Named::encodings, crate::specs::Named::named))]
 pub fn table() -> [u64; 154]
     ensures { result ≡ encodings }
 {
@@ -34,6 +35,7 @@ pub fn table() -> [u64; 154]
 }
 
 // The place of the first field of a width and kind, by bits 10 to 14 of the encoding; 0 where there is none.
+#[tactic(auto, unfolding(crate::specs::Lookup::start_of))]
 pub fn start_of(group: u64) -> u64
     ensures { result ≡ start_of group }
 {
@@ -56,6 +58,7 @@ pub fn start_of(group: u64) -> u64
 }
 
 // How many fields a width and kind has, up to the first index that no field has.
+#[tactic(auto, unfolding(crate::specs::Lookup::count_of))]
 pub fn count_of(group: u64) -> u64
     ensures { result ≡ count_of group }
 {
@@ -236,6 +239,7 @@ const PLACES: [usize; 154] = [
 ];
 
 // Every name of names.rt in the order of the table: the contract ties each to its encoding.
+#[tactic(auto, unfolding(crate::specs::Named::named, crate::specs::Named::places_named))]
 pub fn places() -> [usize; 154]
     ensures { result ≡ places_named }
 {

@@ -35,6 +35,7 @@ const EXTENDED_HIDDEN: u32 = EXTENDED_WAITPKG | EXTENDED_LA57;
 const TIMER_FREQUENCY_MHZ: u32 = 3_000;
 
 // Four bytes as a number, the least significant first.
+#[tactic(auto, unfolding(bits::specs::LittleEndian::number_of))]
 fn little_endian(b0: u8, b1: u8, b2: u8, b3: u8) -> u32
     ensures { result ≡ number_of (b0 ∷ b1 ∷ b2 ∷ b3 ∷ []) }
 {
@@ -42,6 +43,7 @@ fn little_endian(b0: u8, b1: u8, b2: u8, b3: u8) -> u32
 }
 
 // The highest hypervisor leaf, and the vendor text as three words.
+#[tactic(auto, unfolding(bits::specs::LittleEndian::number_of, crate::specs::Cpuid::vendor_info))]
 fn vendor_info() -> CpuidWords
     ensures { result ≡ vendor_info }
 {
@@ -67,6 +69,7 @@ fn feature_info(host: CpuidWords) -> CpuidWords
 }
 
 // Where all of RCX is 0: no WAITPKG, no LA57.
+#[tactic(auto, unfolding(crate::specs::Cpuid::extended_features))]
 fn extended_features(rcx: u64, host: CpuidWords) -> CpuidWords
     ensures { result ≡ extended_features rcx host }
 {
@@ -82,6 +85,7 @@ fn extended_features(rcx: u64, host: CpuidWords) -> CpuidWords
 }
 
 // A frequency where the host gives none.
+#[tactic(auto, unfolding(crate::specs::Cpuid::frequency_info))]
 fn frequency_info(host: CpuidWords) -> CpuidWords
     ensures { result ≡ frequency_info host }
 {
@@ -97,6 +101,7 @@ fn frequency_info(host: CpuidWords) -> CpuidWords
 }
 
 // The guest's words for a leaf, of the host's.
+#[tactic(auto, unfolding(crate::specs::Cpuid::leaf_words))]
 fn leaf_words(leaf: u32, rcx: u64, host: CpuidWords) -> CpuidWords
     ensures { result ≡ leaf_words leaf rcx host }
 {
@@ -124,6 +129,7 @@ fn leaf_words(leaf: u32, rcx: u64, host: CpuidWords) -> CpuidWords
 }
 
 // The registers with the words in EAX, EBX, ECX and EDX, the high halves zero.
+#[tactic(auto, unfolding(crate::specs::Cpuid::with_words))]
 fn with_words(g: GeneralRegisters, words: CpuidWords) -> GeneralRegisters
     ensures { result ≡ with_words g words }
 {
@@ -136,6 +142,7 @@ fn with_words(g: GeneralRegisters, words: CpuidWords) -> GeneralRegisters
 }
 
 // The registers after CPUID, given the host's words for the same EAX and ECX. The leaf is EAX.
+#[tactic(auto, unfolding(crate::specs::Cpuid::handle_cpuid))]
 pub fn handle_cpuid(g: GeneralRegisters, host: CpuidWords) -> GeneralRegisters
     ensures { result ≡ handle_cpuid g host }
 {

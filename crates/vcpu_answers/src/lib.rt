@@ -1,6 +1,8 @@
 // What the host is to do after an exit, and CPUID as the guest sees it.
 // Ported from `run` and `handle_cpuid` of x86_vcpu src/vmx/vcpu.rs (Copyright 2025 The Axvisor Team, Apache-2.0). Changed: accesses of APIC registers
 // are answered to the host, and an I/O size of 8 is Halt.
+#![tactic(auto)]
+
 ghost use Rattle.std.specs.Prelude.{◌≡◌};
 ghost use Rattle.vcpu_answers.specs.Answer.{answer_words, hypercall, interrupt, io_data, is_shutdown, is_width, io_access, io_exit, io_answer, msr_read, msr_write, is_builtin, answer_to, answer_of};
 
@@ -68,6 +70,7 @@ pub enum AxVCpuExitReason {
 }
 
 // The number of an answer, then its values; unused words are 0.
+#[tactic(auto, unfolding(crate::specs::Answer::answer_words))]
 pub fn answer_words(answer: AxVCpuExitReason) -> [u64; 8]
     ensures { result ≡ answer_words answer }
 {
@@ -130,6 +133,7 @@ fn interrupt(information: u32) -> AxVCpuExitReason
 // ---- I/O
 
 // The bytes of RAX that an OUT writes.
+#[tactic(auto, unfolding(crate::specs::Answer::io_data))]
 fn io_data(width: u8, rax: u64) -> u64
     ensures { result ≡ io_data width rax }
 {
@@ -142,12 +146,14 @@ fn io_data(width: u8, rax: u64) -> u64
     rax % 0x1_0000_0000
 }
 
+#[tactic(auto, unfolding(crate::specs::Answer::is_shutdown))]
 fn is_shutdown(info: VmxIoExitInfo, rax: u64) -> bool
     ensures { result ≡ is_shutdown info rax }
 {
     (info.port == QEMU_EXIT_PORT) & (info.access_size == 2) & (rax == QEMU_EXIT_MAGIC)
 }
 
+#[tactic(auto, unfolding(crate::specs::Answer::is_width))]
 fn is_width(size: u8) -> bool
     ensures { result ≡ is_width size }
 {
@@ -155,6 +161,7 @@ fn is_width(size: u8) -> bool
 }
 
 // An access of 1, 2 or 4 bytes that is neither a string access nor repeated.
+#[tactic(auto, unfolding(crate::specs::Answer::io_access))]
 fn io_access(info: VmxIoExitInfo, rax: u64) -> AxVCpuExitReason
     ensures { result ≡ io_access info rax }
 {
@@ -176,6 +183,7 @@ fn io_access(info: VmxIoExitInfo, rax: u64) -> AxVCpuExitReason
 }
 
 // String and repeated accesses and other sizes are Halt.
+#[tactic(auto, unfolding(crate::specs::Answer::io_exit))]
 fn io_exit(info: VmxIoExitInfo, rax: u64) -> AxVCpuExitReason
     ensures { result ≡ io_exit info rax }
 {
@@ -188,6 +196,7 @@ fn io_exit(info: VmxIoExitInfo, rax: u64) -> AxVCpuExitReason
     AxVCpuExitReason::Halt
 }
 
+#[tactic(auto, unfolding(crate::specs::Answer::io_answer))]
 fn io_answer(qualification: u64, rax: u64) -> AxVCpuExitReason
     ensures { result ≡ io_answer qualification rax }
 {
@@ -197,6 +206,7 @@ fn io_answer(qualification: u64, rax: u64) -> AxVCpuExitReason
 
 // ---- MSRs
 
+#[tactic(auto, unfolding(crate::specs::Answer::msr_read))]
 fn msr_read(g: GeneralRegisters) -> AxVCpuExitReason
     ensures { result ≡ msr_read g }
 {
@@ -208,6 +218,7 @@ fn msr_read(g: GeneralRegisters) -> AxVCpuExitReason
     AxVCpuExitReason::SysRegRead { addr: g.rcx }
 }
 
+#[tactic(auto, unfolding(crate::specs::Answer::msr_write))]
 fn msr_write(g: GeneralRegisters) -> AxVCpuExitReason
     ensures { result ≡ msr_write g }
 {
@@ -227,6 +238,7 @@ fn msr_write(g: GeneralRegisters) -> AxVCpuExitReason
 // ---- by reason
 
 // What `builtin_vmexit_handler` deals with.
+#[tactic(auto, unfolding(crate::specs::Answer::is_builtin))]
 fn is_builtin(reason: u32) -> bool
     ensures { result ≡ is_builtin reason }
 {
@@ -237,6 +249,7 @@ fn is_builtin(reason: u32) -> bool
         | (reason == VmxExitReason::XSETBV)
 }
 
+#[tactic(auto, unfolding(crate::specs::Answer::answer_to))]
 fn answer_to(reason: u32, r: Report) -> AxVCpuExitReason
     ensures { result ≡ answer_to reason r }
 {

@@ -1,5 +1,5 @@
 -- Writing a field or a register of a session, and the APIC value (document 01, "Fields", "Registers", "Session"). Assumes nothing.
-use Rattle.std.specs.Prelude.{ℕ, cond, not, List, eqb, set}
+use Rattle.std.specs.Prelude.{ℕ, cond, not, eqb}
 use Rattle.bits.specs.Words.{low32, high32}
 use Rattle.regs.specs.Registers.{with_reg_of_index, with_reg}
 use Rattle.regs.specs.declared.GeneralRegisters.{GeneralRegisters}

@@ -1,5 +1,5 @@
 -- The queue of events, and queueing one (document 01, "Session" and "The operations and their numbers"). Assumes nothing.
-use Rattle.std.specs.Prelude.{ℕ, suc, ◌+◌, ◌-◌, ◌/◌, Bool, false, cond, List, ◌∷◌, ◌++◌, eqb, leb, ltb, get_or, set, take, drop}
+use Rattle.std.specs.Prelude.{ℕ, suc, ◌+◌, ◌-◌, ◌/◌, false, cond, List, ◌∷◌, ◌++◌, eqb, leb, ltb, get_or, set, take, drop}
 use Rattle.bits.specs.Words.{bit, with_bit}
 use Rattle.vcpu_session.specs.Phase as Phase
 use Rattle.vcpu_session.specs.Session.{is_unlawful, with_queue}

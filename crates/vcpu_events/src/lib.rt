@@ -1,6 +1,8 @@
 // Queueing and injecting events, and entering the guest.
 // Ported from x86_vcpu src/vmx/vcpu.rs and inject_event of src/vmx/vmcs.rs (Copyright 2025 The Axvisor Team, Apache-2.0). Changed: the queue
 // holds 64 events; no error code goes in while CR0.PE is clear; what the Rust panics at is refused by a number; the entry itself is the host's.
+#![tactic(auto)]
+
 ghost use Rattle.std.specs.Prelude.{◌≡◌, ◌<◌, ◌≤◌, ◌-◌, cond};
 ghost use Rattle.bits.specs.Words.{with_bit};
 ghost use Rattle.vcpu_session.specs.Session.{LAST_ENTRY};
@@ -69,6 +71,7 @@ pub fn with_coded(coded: u64, place: u8, on: bool) -> u64
 // ---- entry
 
 // The event is an interrupt (vector 32 or above), and interrupts are blocked (`allow_interrupt`).
+#[tactic(auto, unfolding(crate::specs::Entry::is_held))]
 pub fn is_held(vector: u8, rflags: u64, interruptibility: u32) -> bool
     ensures { result ≡ is_held vector rflags interruptibility }
 {
@@ -76,6 +79,7 @@ pub fn is_held(vector: u8, rflags: u64, interruptibility: u32) -> bool
 }
 
 // An error code goes in with an event: its vector carries one, and the guest is in protected mode. In real-address mode no exception has one.
+#[tactic(auto, unfolding(crate::specs::Entry::code_in))]
 pub fn code_goes_in(vector: u8, cr0: u64) -> bool
     ensures { result ≡ code_in vector cr0 }
 {
@@ -83,6 +87,7 @@ pub fn code_goes_in(vector: u8, cr0: u64) -> bool
 }
 
 // Running, launched, one entry more, and one held entry more where the event is held. The caller has tested 22.
+#[tactic(auto, unfolding(crate::specs::Entry::progress_after))]
 pub fn progress_after(p: Progress, injection: Injection) -> Progress
     requires { (p.entries < LAST_ENTRY) × (p.held ≤ p.entries) }
     ensures { result ≡ progress_after p injection }

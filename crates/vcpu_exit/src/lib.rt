@@ -1,6 +1,8 @@
 // What a VM exit reports, what its words say, and the refusals of a report.
 // Ported from x86_vcpu src/vmx/vcpu.rs (Copyright 2025 The Axvisor Team, Apache-2.0). Changed: what the Rust reads from the processor after an
 // exit is one report, and what it panics at is refused by a number.
+#![tactic(auto)]
+
 ghost use Rattle.std.specs.Prelude.{◌≡◌, ◌<◌};
 ghost use Rattle.vcpu_exit.specs.Reading.{reason_of, failed, is_apic, read_edx_eax, register_of, moved_value, is_move_to, turns_paging_on, advance_to, advance_of, past_end};
 ghost use Rattle.vcpu_exit.specs.Refusal.{unknown_reason, owned_bits_differ, no_interrupt, other_access, other_xcr, refused_xcr0, efer_refusal, reason_refusal, exit_refusal, report_refusal};
@@ -68,6 +70,7 @@ pub fn is_failed(r: Report) -> bool
 }
 
 // Whether ECX is the MSR of an x2APIC register.
+#[tactic(auto, unfolding(crate::specs::Reading::is_apic))]
 pub fn is_apic(rcx: u64) -> bool
     ensures { result ≡ is_apic rcx }
 {
@@ -83,6 +86,7 @@ pub fn read_edx_eax(g: GeneralRegisters) -> u64
 }
 
 // A register by the number that an instruction has for it. Register 4 is RSP.
+#[tactic(auto, unfolding(crate::specs::Reading::register_of))]
 fn register_of(g: GeneralRegisters, rsp: u64, index: u8) -> u64
     requires { index < 16 }
     ensures { result ≡ register_of g rsp index }
@@ -96,6 +100,7 @@ fn register_of(g: GeneralRegisters, rsp: u64, index: u8) -> u64
 }
 
 // The value that a move to a control register brings.
+#[tactic(auto, unfolding(crate::specs::Reading::moved_value))]
 pub fn moved_value(r: Report) -> u64
     ensures { result ≡ moved_value r }
 {
@@ -105,6 +110,7 @@ pub fn moved_value(r: Report) -> u64
 }
 
 // Whether a control-register access is a move to the register n.
+#[tactic(auto, unfolding(crate::specs::Reading::is_move_to))]
 pub fn is_move_to(r: Report, n: u8) -> bool
     ensures { result ≡ is_move_to r n }
 {
@@ -113,6 +119,7 @@ pub fn is_move_to(r: Report, n: u8) -> bool
 }
 
 // A move to CR0 of a value with PG.
+#[tactic(auto, unfolding(crate::specs::Reading::turns_paging_on))]
 fn turns_paging_on(r: Report) -> bool
     ensures { result ≡ turns_paging_on r }
 {
@@ -121,6 +128,7 @@ fn turns_paging_on(r: Report) -> bool
         & ((moved_value(r) >> Cr0Flags::PAGING) % 2 == 1)
 }
 
+#[tactic(auto, unfolding(crate::specs::Reading::advance_to))]
 fn advance_to(reason: u32, r: Report) -> u64
     ensures { result ≡ advance_to reason r }
 {
@@ -154,6 +162,7 @@ pub fn advance_of(r: Report) -> u64
 // ---- refusals
 
 // 14: above 64, or 35, 38 or 42, which the manual leaves out, or failed with a reason other than 33, 34 and 41.
+#[tactic(auto, unfolding(crate::specs::Refusal::unknown_reason))]
 pub fn unknown_reason(r: Report) -> bool
     ensures { result ≡ unknown_reason r }
 {
@@ -166,6 +175,7 @@ pub fn unknown_reason(r: Report) -> bool
 }
 
 // 16: an external interrupt whose information is not valid, or of the reserved type.
+#[tactic(auto, unfolding(crate::specs::Refusal::no_interrupt))]
 fn no_interrupt(r: Report) -> bool
     ensures { result ≡ no_interrupt r }
 {
@@ -175,6 +185,7 @@ fn no_interrupt(r: Report) -> bool
 }
 
 // 18: a control-register access that is no move to CR0 or CR4.
+#[tactic(auto, unfolding(crate::specs::Refusal::other_access))]
 fn other_access(r: Report) -> bool
     ensures { result ≡ other_access r }
 {
@@ -182,6 +193,7 @@ fn other_access(r: Report) -> bool
 }
 
 // 20: XSETBV with ECX not 0.
+#[tactic(auto, unfolding(crate::specs::Refusal::other_xcr))]
 fn other_xcr(r: Report) -> bool
     ensures { result ≡ other_xcr r }
 {
@@ -189,6 +201,7 @@ fn other_xcr(r: Report) -> bool
 }
 
 // A value that XCR0 may have, within the supported bits: the manual's rule, over each bit as 0 or 1.
+#[tactic(auto, unfolding(crate::specs::Xcr0::xcr0_allowed))]
 fn xcr0_allowed(supported: u64, value: u64) -> bool
     ensures { result ≡ xcr0_allowed supported value }
 {
@@ -213,6 +226,7 @@ fn xcr0_allowed(supported: u64, value: u64) -> bool
 }
 
 // 19: XSETBV of a value that XCR0 may not have.
+#[tactic(auto, unfolding(crate::specs::Refusal::refused_xcr0))]
 fn refused_xcr0(supported: u64, r: Report) -> bool
     ensures { result ≡ refused_xcr0 supported r }
 {
@@ -224,6 +238,7 @@ fn refused_xcr0(supported: u64, r: Report) -> bool
 }
 
 // 17: RIP would pass 2^64 - 1.
+#[tactic(auto, unfolding(crate::specs::Reading::past_end))]
 fn past_end(r: Report) -> bool
     ensures { result ≡ past_end r }
 {
@@ -231,6 +246,7 @@ fn past_end(r: Report) -> bool
 }
 
 // 8: paging is turned on, and entry bit 9 is to be set and is not in allowed-1.
+#[tactic(auto, unfolding(crate::specs::Refusal::efer_refusal))]
 fn efer_refusal(pair: Pair, entry: u32, r: Report) -> u32
     ensures { result ≡ efer_refusal pair entry r }
 {
@@ -242,6 +258,7 @@ fn efer_refusal(pair: Pair, entry: u32, r: Report) -> u32
 }
 
 // Those of one exit reason alone: 16; 18; 20; 19; 21, an APIC access; or 0.
+#[tactic(auto, unfolding(crate::specs::Refusal::reason_refusal))]
 fn reason_refusal(supported: u64, r: Report) -> u32
     ensures { result ≡ reason_refusal supported r }
 {
@@ -265,6 +282,7 @@ fn reason_refusal(supported: u64, r: Report) -> u32
 
 // The refusals of an exit: those of its reason; 17; 8. The reason's stand in a function of their own: the compiler does not inline a call behind so many
 // branches, and would copy the report for it.
+#[tactic(auto, unfolding(crate::specs::Refusal::exit_refusal, bits::specs::Refuses::or_else))]
 pub fn exit_refusal(pair: Pair, entry: u32, supported: u64, r: Report) -> u32
     ensures { result ≡ exit_refusal pair entry supported r }
 {

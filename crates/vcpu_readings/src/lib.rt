@@ -1,6 +1,8 @@
 // Readings of the guest's mode, of its page tables, and of a linear address.
 // Ported from x86_vcpu src/vmx/vcpu.rs and src/ept.rs (Copyright 2025 The Axvisor Team, Apache-2.0). Changed: the fields and the host's EFER come in
 // as numbers, and a sum that passes 2^64 - 1 is refused.
+#![tactic(auto)]
+
 ghost use Rattle.std.specs.Prelude.{◌≡◌};
 ghost use Rattle.vcpu_readings.specs.Readings.{cpu_mode, paging_level, walk_width, walk_pse, walk_nxe, page_walk, segment_base, linear_address, mode_number};
 
@@ -50,6 +52,7 @@ pub enum AddressAnswer {
 }
 
 // The mode, from the host's EFER, the guest's CS access rights and CR0 (`get_cpu_mode`).
+#[tactic(auto, unfolding(crate::specs::Readings::cpu_mode))]
 pub fn cpu_mode(efer: u64, csrights: u32, cr0: u64) -> VmCpuMode
     ensures { result ≡ cpu_mode efer csrights cr0 }
 {
@@ -66,6 +69,7 @@ pub fn cpu_mode(efer: u64, csrights: u32, cr0: u64) -> VmCpuMode
 }
 
 // The number of a mode in the C interface.
+#[tactic(auto, unfolding(crate::specs::Readings::mode_number))]
 pub fn mode_number(mode: VmCpuMode) -> u32
     ensures { result ≡ mode_number mode }
 {
@@ -78,6 +82,7 @@ pub fn mode_number(mode: VmCpuMode) -> u32
 }
 
 // Levels of the guest's page tables: 0 without paging (`get_paging_level`).
+#[tactic(auto, unfolding(crate::specs::Readings::paging_level))]
 fn paging_level(w: PagingWords) -> u8
     ensures { result ≡ paging_level w }
 {
@@ -93,6 +98,7 @@ fn paging_level(w: PagingWords) -> u8
     3
 }
 
+#[tactic(auto, unfolding(crate::specs::Readings::walk_width))]
 fn walk_width(level: u8) -> u8
     ensures { result ≡ walk_width level }
 {
@@ -106,6 +112,7 @@ fn walk_width(level: u8) -> u8
 }
 
 // CR4.PSE at level 2, else yes.
+#[tactic(auto, unfolding(crate::specs::Readings::walk_pse))]
 fn walk_pse(level: u8, cr4: u64) -> bool
     ensures { result ≡ walk_pse level cr4 }
 {
@@ -116,6 +123,7 @@ fn walk_pse(level: u8, cr4: u64) -> bool
 }
 
 // EFER.NXE, but at level 2 no.
+#[tactic(auto, unfolding(crate::specs::Readings::walk_nxe))]
 fn walk_nxe(level: u8, efer: u64) -> bool
     ensures { result ≡ walk_nxe level efer }
 {
@@ -126,6 +134,7 @@ fn walk_nxe(level: u8, efer: u64) -> bool
 }
 
 // What a walk of the guest's page tables starts from (`get_ptw_info`).
+#[tactic(auto, unfolding(crate::specs::Readings::page_walk))]
 pub fn page_walk(w: PagingWords) -> GuestPageWalkInfo
     ensures { result ≡ page_walk w }
 {
@@ -146,6 +155,7 @@ pub fn page_walk(w: PagingWords) -> GuestPageWalkInfo
 }
 
 // 0 in 64-bit mode, else the base of CS.
+#[tactic(auto, unfolding(crate::specs::Readings::segment_base))]
 fn segment_base(mode: VmCpuMode, csbase: u64) -> u64
     ensures { result ≡ segment_base mode csbase }
 {
@@ -158,6 +168,7 @@ fn segment_base(mode: VmCpuMode, csbase: u64) -> u64
 }
 
 // A guest address with the base of CS added, but in 64-bit mode none (`gla2gva`). Refusal 17: the sum passes 2^64 - 1.
+#[tactic(auto, unfolding(crate::specs::Readings::linear_address))]
 pub fn linear_address(mode: VmCpuMode, csbase: u64, address: u64) -> AddressAnswer
     ensures { result ≡ linear_address mode csbase address }
 {

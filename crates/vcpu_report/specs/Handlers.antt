@@ -8,7 +8,6 @@ use Rattle.vmcs.specs.Efer.{update_efer}
 use Rattle.vmcs.specs.Field.{value_of}
 use Rattle.vmcs.specs.Flags.Cr0Flags as Cr0Flags
 use Rattle.vmcs.specs.Names.VmcsControl32 as VmcsControl32
-use Rattle.vmcs.specs.Names.VmcsControlNW as VmcsControlNW
 use Rattle.vmcs.specs.Names.VmcsGuest32 as VmcsGuest32
 use Rattle.vmcs.specs.Names.VmcsGuest64 as VmcsGuest64
 use Rattle.vmcs.specs.Names.VmcsGuestNW as VmcsGuestNW
@@ -16,7 +15,6 @@ use Rattle.vmcs.specs.Names.VmcsReadOnly32 as VmcsReadOnly32
 use Rattle.vmcs.specs.Names.VmcsReadOnlyNW as VmcsReadOnlyNW
 use Rattle.vmcs.specs.Writes.{Write, ◌≔◌, applied}
 use Rattle.vmcs.specs.declared.Vmcs.{Vmcs}
-use Rattle.vmcs.specs.declared.controls.CrWords.{CrWords}
 use Rattle.vmcs.specs.declared.controls.EferUpdate.{EferUpdate}
 use Rattle.vmcs.specs.declared.controls.Pair.{Pair}
 use Rattle.vcpu_session.specs.Session.{VMX_PREEMPTION_TIMER_SET_VALUE}

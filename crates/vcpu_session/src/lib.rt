@@ -1,6 +1,8 @@
 // The session of one virtual CPU, by value.
 // Ported from VmxVcpu of x86_vcpu src/vmx/vcpu.rs (Copyright 2025 The Axvisor Team, Apache-2.0). Changed: what the Rust reads from the
 // processor is part of the session or comes in as an argument; the queue of events has 64 places.
+#![tactic(auto)]
+
 ghost use Rattle.std.specs.Prelude.{◌≡◌};
 ghost use Rattle.vcpu_session.specs.Session.{new_session, is_unlawful};
 
@@ -83,6 +85,7 @@ pub struct Session {
 }
 
 // A new session: fresh, and all zero.
+#[tactic(auto, unfolding(crate::specs::Session::new_session))]
 pub fn new() -> Session
     ensures { result ≡ new_session }
 {

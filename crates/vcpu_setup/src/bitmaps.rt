@@ -13,6 +13,7 @@ const X2APIC_MSRS: u32 = 0x800;
 const X2APIC_COUNT: u32 = 64;
 
 // Adds the port by which a guest ends QEMU: refusal 2.
+#[tactic(auto, unfolding(crate::specs::Bitmaps::io_bitmap_set))]
 pub fn setup_io_bitmap(a: &mut [u8], b: &mut [u8]) -> u32
     ensures { record { refusal = result; a = a.new; b = b.new } ≡ io_bitmap_set a.old b.old }
 {
@@ -20,6 +21,7 @@ pub fn setup_io_bitmap(a: &mut [u8], b: &mut [u8]) -> u32
 }
 
 // Adds reads and writes of IA32_UMWAIT_CONTROL, since a Linux guest takes an exception from it otherwise (the Rust), and of the x2APIC registers: refusal 2. Both edits are refused alike.
+#[tactic(auto, unfolding(crate::specs::Bitmaps::msr_bitmap_set))]
 pub fn setup_msr_bitmap(frame: &mut [u8]) -> u32
     ensures { record { refusal = result; frame = frame.new } ≡ msr_bitmap_set frame.old }
 {

@@ -1,6 +1,8 @@
 // Setup: the capability words of a processor and the host's state become the fields of a session.
 // Ported from setup_vmcs of x86_vcpu src/vmx/vcpu.rs (Copyright 2025 The Axvisor Team, Apache-2.0). Changed: MSRs, CPUID flags, the host's state and the
 // frames' addresses come in as arguments; every refusal is found before a field is written.
+#![tactic(auto)]
+
 pub mod bitmaps;
 
 ghost use Rattle.std.specs.Prelude.{◌≡◌, ◌<◌};
@@ -111,6 +113,7 @@ fn halves_of(msr: u64) -> Pair
 
 // The word used, of a plain one and the TRUE one that supersedes it where the processor has it. Where it has none there is no MSR to read it from, so
 // what stands in its place does not count.
+#[tactic(auto, unfolding(crate::specs::Capability::used))]
 fn word_used(basic: u64, plain: u64, superseding: u64) -> u64
     ensures { result ≡ used basic plain superseding }
 {
@@ -200,6 +203,7 @@ const EXIT_SET: u32 = 1 << ExitControls::HOST_ADDRESS_SPACE_SIZE
 const ENTRY_SET: u32 = 1 << EntryControls::LOAD_IA32_PAT | 1 << EntryControls::LOAD_IA32_EFER;
 
 // The refusal of one word: 8, a set bit is not in allowed-1; 9, a cleared bit is in allowed-0; or 0.
+#[tactic(auto, unfolding(crate::specs::Words::bits_refusal))]
 fn bits_refusal(pair: Pair, set: u32, clear: u32) -> u32
     ensures { result ≡ bits_refusal pair set clear }
 {
@@ -213,12 +217,14 @@ fn bits_refusal(pair: Pair, set: u32, clear: u32) -> u32
 }
 
 // The first of two refusals, where 0 is none.
+#[tactic(auto, unfolding(bits::specs::Refuses::or_else))]
 fn or_else(first: u32, second: u32) -> u32
     ensures { result ≡ or_else first second }
 {
     if first == 0 { second } else { first }
 }
 
+#[tactic(auto, unfolding(crate::specs::Words::words_refusal))]
 fn words_refusal(pairs: [Pair; 5], f: Features) -> u32
     ensures { result ≡ words_refusal pairs f }
 {
@@ -233,6 +239,7 @@ fn words_refusal(pairs: [Pair; 5], f: Features) -> u32
     )
 }
 
+#[tactic(auto, unfolding(crate::specs::Words::setup_words))]
 fn setup_words(pairs: [Pair; 5], olds: [u32; 5], f: Features) -> [u32; 5]
     ensures { result ≡ setup_words pairs olds f }
 {
@@ -446,6 +453,7 @@ const CD: u64 = 1 << Cr0Flags::CACHE_DISABLE;
 const ET: u64 = 1 << Cr0Flags::EXTENSION_TYPE;
 
 // All that setup_vmcs writes.
+#[tactic(auto, unfolding(crate::specs::Writes::setup_writes))]
 fn set_vmcs(v: Vmcs, a: Arguments) -> Vmcs
     ensures { result ≡ vmcs_set v a }
 {
@@ -479,6 +487,7 @@ fn fixed_consistent(f: Fixed) -> bool
 }
 
 // No bit must be 1 that may not be.
+#[tactic(auto, unfolding(crate::specs::Setup::consistent))]
 fn capabilities_consistent(c: Capabilities) -> bool
     ensures { result ≡ consistent c }
 {
@@ -503,6 +512,7 @@ pub fn capability_refusal(c: Capabilities, f: Features) -> u32
 }
 
 // 2; 1, not fresh; then those of the capabilities; or 0.
+#[tactic(auto, unfolding(crate::specs::Setup::setup_refusal))]
 fn setup_refusal(s: Session, c: Capabilities, f: Features) -> u32
     ensures { result ≡ setup_refusal s c f }
 {
@@ -519,6 +529,7 @@ fn setup_refusal(s: Session, c: Capabilities, f: Features) -> u32
 const X87: u64 = 1 << XCr0Flags::X87;
 
 // The session of an accepted setup.
+#[tactic(auto, unfolding(crate::specs::Setup::readied))]
 pub fn ready(s: Session, a: Arguments, c: Capabilities) -> Session
     ensures { result ≡ readied s a c }
 {
@@ -539,6 +550,7 @@ pub fn ready(s: Session, a: Arguments, c: Capabilities) -> Session
 }
 
 // Refusals: 2; 1, not fresh; 6, a pair or fixed bits that contradict themselves; then 8 or 9, word by word.
+#[tactic(auto, unfolding(crate::specs::Setup::setup_of))]
 pub fn setup(s: Session, a: Arguments) -> Answered
     ensures { result ≡ setup_of s a }
 {

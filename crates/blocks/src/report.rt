@@ -81,6 +81,7 @@ fn regs_at(b: &[u8]) -> GeneralRegisters
     regs::of_array(regs)
 }
 
+#[tactic(auto, unfolding(crate::specs::ReportBlock::cpuid_of))]
 fn cpuid_at(b: &[u8]) -> CpuidWords
     requires { length b.now ≡ LENGTH }
     ensures { result ≡ cpuid_of b.now }
@@ -93,6 +94,7 @@ fn cpuid_at(b: &[u8]) -> CpuidWords
     }
 }
 
+#[tactic(auto, unfolding(crate::specs::ReportBlock::report_of))]
 pub fn report_at(b: &[u8]) -> Report
     requires { length b.now ≡ LENGTH }
     ensures { result ≡ report_of b.now }

@@ -107,6 +107,7 @@ impl Layout {
 // ---- Which bytes are a block.
 
 // Refusal 2 is its negation.
+#[tactic(auto, unfolding(crate::specs::SetupBlock::block_accepted))]
 pub fn accepts(b: &[u8]) -> bool
     ensures { result ≡ block_accepted b.now }
 {
@@ -121,6 +122,7 @@ pub fn accepts(b: &[u8]) -> bool
 
 // ---- Reading a block of the right length.
 
+#[tactic(auto, unfolding(crate::specs::SetupBlock::host_of))]
 fn host_at(b: &[u8]) -> HostWords
     requires { length b.now ≡ LENGTH }
     ensures { result ≡ host_of b.now }
@@ -147,6 +149,7 @@ fn host_at(b: &[u8]) -> HostWords
     }
 }
 
+#[tactic(auto, unfolding(crate::specs::SetupBlock::addresses_of))]
 fn addresses_at(b: &[u8]) -> Addresses
     requires { length b.now ≡ LENGTH }
     ensures { result ≡ addresses_of b.now }
@@ -159,6 +162,7 @@ fn addresses_at(b: &[u8]) -> Addresses
     }
 }
 
+#[tactic(auto, unfolding(crate::specs::SetupBlock::msrs_of))]
 fn msrs_at(b: &[u8]) -> CapabilityMsrs
     requires { length b.now ≡ LENGTH }
     ensures { result ≡ msrs_of b.now }
@@ -181,6 +185,7 @@ fn msrs_at(b: &[u8]) -> CapabilityMsrs
     }
 }
 
+#[tactic(auto, unfolding(crate::specs::SetupBlock::features_of))]
 fn features_at(b: &[u8]) -> Features
     requires { length b.now ≡ LENGTH }
     ensures { result ≡ features_of b.now }
@@ -192,6 +197,7 @@ fn features_at(b: &[u8]) -> Features
     }
 }
 
+#[tactic(auto, unfolding(crate::specs::SetupBlock::arguments_of))]
 pub fn arguments_at(b: &[u8]) -> Arguments
     requires { length b.now ≡ LENGTH }
     ensures { result ≡ arguments_of b.now }

@@ -1,4 +1,6 @@
 // The byte record of a session, which the host kernel holds and hands to each call.
+#![tactic(auto)]
+
 ghost use Rattle.std.specs.Prelude.{◌≡◌, ◌+◌, ◌<◌, ◌≤◌, length, drop, get_or};
 ghost use mathlib.Core.List.{[], ◌∷◌, flat_map};
 ghost use Rattle.std.proofs.lemmas.List.Edits.{sets};
@@ -89,6 +91,7 @@ pub struct Decoded {
 // ---- Which bytes are a record.
 
 // Refusal 2 is its negation. It reads what it tests, and no more.
+#[tactic(auto, unfolding(crate::specs::Codec::accepted_of))]
 pub fn accepts(b: &[u8]) -> bool
     ensures { result ≡ accepted_of b.now }
 {
@@ -105,6 +108,7 @@ pub fn accepts(b: &[u8]) -> bool
 
 // ---- Reading a record of the right length.
 
+#[tactic(auto, unfolding(crate::specs::Codec::session_of))]
 pub fn progress_at(b: &[u8]) -> Progress
     requires { length b.now ≡ LENGTH }
     ensures { result ≡ (session_of b.now).progress }
@@ -117,6 +121,7 @@ pub fn progress_at(b: &[u8]) -> Progress
     }
 }
 
+#[tactic(auto, unfolding(crate::specs::Codec::session_of))]
 pub fn phase_at(b: &[u8]) -> u8
     requires { length b.now ≡ LENGTH }
     ensures { result ≡ (session_of b.now).progress.phase }
@@ -124,6 +129,7 @@ pub fn phase_at(b: &[u8]) -> u8
     words::get1(b, Record::PHASE)
 }
 
+#[tactic(auto, unfolding(crate::specs::Codec::session_of))]
 pub fn waiting_at(b: &[u8]) -> u8
     requires { length b.now ≡ LENGTH }
     ensures { result ≡ (session_of b.now).queue.waiting }
@@ -132,6 +138,7 @@ pub fn waiting_at(b: &[u8]) -> u8
 }
 
 // Whether each event has an error code, bit i for place i.
+#[tactic(auto, unfolding(crate::specs::Codec::session_of))]
 pub fn coded_at(b: &[u8]) -> u64
     requires { length b.now ≡ LENGTH }
     ensures { result ≡ (session_of b.now).queue.coded }
@@ -139,6 +146,7 @@ pub fn coded_at(b: &[u8]) -> u64
     words::get8(b, Record::CODED)
 }
 
+#[tactic(auto, unfolding(crate::specs::Codec::session_of))]
 fn regs_at(b: &[u8]) -> GeneralRegisters
     requires { length b.now ≡ LENGTH }
     ensures { result ≡ (session_of b.now).regs }
@@ -148,6 +156,7 @@ fn regs_at(b: &[u8]) -> GeneralRegisters
     regs::of_array(regs)
 }
 
+#[tactic(auto, unfolding(crate::specs::Codec::session_of))]
 fn vmcs_at(b: &[u8]) -> Vmcs
     requires { length b.now ≡ LENGTH }
     ensures { result ≡ (session_of b.now).vmcs }
@@ -168,6 +177,7 @@ fn vmcs_at(b: &[u8]) -> Vmcs
     }
 }
 
+#[tactic(auto, unfolding(crate::specs::Codec::session_of))]
 fn queue_at(b: &[u8]) -> Queue
     requires { length b.now ≡ LENGTH }
     ensures { result ≡ (session_of b.now).queue }
@@ -185,6 +195,7 @@ fn queue_at(b: &[u8]) -> Queue
 }
 
 // The pair that stands at an offset, and below the fixed bits: proofs/Capabilities.antt says which are the session's.
+#[tactic(auto, unfolding(crate::specs::Codec::pair_of))]
 pub fn pair_at(b: &[u8], at: usize) -> Pair
     requires { at + 8 ≤ length b.now }
     ensures { result ≡ pair_of (drop at b.now) }
@@ -195,6 +206,7 @@ pub fn pair_at(b: &[u8], at: usize) -> Pair
     }
 }
 
+#[tactic(auto, unfolding(crate::specs::Codec::session_of))]
 fn pairs_at(b: &[u8]) -> [Pair; 5]
     requires { length b.now ≡ LENGTH }
     ensures { result ≡ (session_of b.now).capabilities.pairs }
@@ -213,6 +225,7 @@ fn pairs_at(b: &[u8]) -> [Pair; 5]
     out
 }
 
+#[tactic(auto, unfolding(crate::specs::Codec::fixed_of))]
 pub fn fixed_at(b: &[u8], at: usize) -> Fixed
     requires { at + 16 ≤ length b.now }
     ensures { result ≡ fixed_of (drop at b.now) }
@@ -223,6 +236,7 @@ pub fn fixed_at(b: &[u8], at: usize) -> Fixed
     }
 }
 
+#[tactic(auto, unfolding(crate::specs::Codec::session_of))]
 fn capabilities_at(b: &[u8]) -> Capabilities
     requires { length b.now ≡ LENGTH }
     ensures { result ≡ (session_of b.now).capabilities }
@@ -235,6 +249,7 @@ fn capabilities_at(b: &[u8]) -> Capabilities
     }
 }
 
+#[tactic(auto, unfolding(crate::specs::Codec::session_of))]
 pub fn xcr0_at(b: &[u8]) -> Xcr0
     requires { length b.now ≡ LENGTH }
     ensures { result ≡ (session_of b.now).xcr0 }
@@ -245,6 +260,7 @@ pub fn xcr0_at(b: &[u8]) -> Xcr0
     }
 }
 
+#[tactic(auto, unfolding(crate::specs::Codec::session_of))]
 pub fn session_at(b: &[u8]) -> Session
     requires { length b.now ≡ LENGTH }
     ensures { result ≡ session_of b.now }
@@ -260,6 +276,7 @@ pub fn session_at(b: &[u8]) -> Session
 }
 
 // The session of a record, or refusal 2. The exported calls use `accepts` and read what they need, so that a refused call builds no session.
+#[tactic(auto, unfolding(crate::specs::Codec::decode_of))]
 pub fn decode(b: &[u8]) -> Decoded
     ensures { result ≡ decode_of b.now }
 {
@@ -279,6 +296,7 @@ pub fn decode(b: &[u8]) -> Decoded
 // ---- Reading one value of a record in place.
 
 // The register at an index.
+#[tactic(auto, unfolding(crate::specs::Codec::session_of))]
 pub fn reg_at(b: &[u8], index: usize) -> u64
     requires { (length b.now ≡ LENGTH) × (index < 16) }
     ensures { result ≡ get_or (list_of (session_of b.now).regs) index 0 }
@@ -287,6 +305,7 @@ pub fn reg_at(b: &[u8], index: usize) -> u64
 }
 
 // The fields at a place of the array of their width.
+#[tactic(auto, unfolding(crate::specs::Codec::session_of))]
 fn w16_at(b: &[u8], place: usize) -> u16
     requires { (length b.now ≡ LENGTH) × (place < 17) }
     ensures { result ≡ value_of (session_of b.now).vmcs (Word16 place) }
@@ -294,6 +313,7 @@ fn w16_at(b: &[u8], place: usize) -> u16
     words::get2(b, Record::W16 + place * 2)
 }
 
+#[tactic(auto, unfolding(crate::specs::Codec::session_of))]
 pub fn w32_at(b: &[u8], place: usize) -> u32
     requires { (length b.now ≡ LENGTH) × (place < 50) }
     ensures { result ≡ value_of (session_of b.now).vmcs (Word32 place) }
@@ -301,6 +321,7 @@ pub fn w32_at(b: &[u8], place: usize) -> u32
     words::get4(b, Record::W32 + place * 4)
 }
 
+#[tactic(auto, unfolding(crate::specs::Codec::session_of))]
 pub fn w64_at(b: &[u8], place: usize) -> u64
     requires { (length b.now ≡ LENGTH) × (place < 41) }
     ensures { result ≡ value_of (session_of b.now).vmcs (Word64 place) }
@@ -308,6 +329,7 @@ pub fn w64_at(b: &[u8], place: usize) -> u64
     words::get8(b, Record::W64 + place * 8)
 }
 
+#[tactic(auto, unfolding(crate::specs::Codec::session_of))]
 pub fn natural_at(b: &[u8], place: usize) -> u64
     requires { (length b.now ≡ LENGTH) × (place < 46) }
     ensures { result ≡ value_of (session_of b.now).vmcs (Natural place) }
@@ -316,6 +338,7 @@ pub fn natural_at(b: &[u8], place: usize) -> u64
 }
 
 // The field at a place of the table, where the widths stand in the order 16, 64, 32, natural.
+#[tactic(auto, unfolding(vmcs::specs::Fields::field_at))]
 pub fn field_at(b: &[u8], place: usize) -> u64
     requires { (length b.now ≡ LENGTH) × (place < 154) }
     ensures { result ≡ value_of (session_of b.now).vmcs (field_at place) }
@@ -382,6 +405,7 @@ fn put_queue(b: &mut [u8], q: Queue)
     words::put_all4(b, Record::CODES, &codes);
 }
 
+#[tactic(auto, unfolding(crate::specs::Codec::pair_bytes))]
 fn put_pair(b: &mut [u8], at: usize, p: Pair)
     requires { at + 8 ≤ length b.old }
     ensures b_after { b.new ≡ sets b.old at (pair_bytes p) }
@@ -391,6 +415,7 @@ fn put_pair(b: &mut [u8], at: usize, p: Pair)
     words::put4(b, at + 4, p.allowed1);
 }
 
+#[tactic(auto, unfolding(crate::specs::Codec::fixed_bytes))]
 fn put_fixed(b: &mut [u8], at: usize, f: Fixed)
     requires { at + 16 ≤ length b.old }
     ensures b_after { b.new ≡ sets b.old at (fixed_bytes f) }
@@ -428,7 +453,7 @@ fn put_capabilities(b: &mut [u8], c: Capabilities)
 fn put_xcr0(b: &mut [u8], x: Xcr0)
     requires { length b.old ≡ LENGTH }
     ensures b_after { b.new ≡ stored_at (XCR0 ∷ SUPPORTED ∷ []) (xcr0_parts x) b.old }
-    ensures xcr0fits { Xcr0Fits x }
+    ensures xcr0_fits { Xcr0Fits x }
 {
     words::put8(b, Record::XCR0, x.value);
     words::put8(b, Record::SUPPORTED, x.supported);
@@ -448,6 +473,7 @@ pub fn put_session(b: &mut [u8], s: Session)
 }
 
 // Refusal 2: the length is wrong. The bytes are then as they were.
+#[tactic(auto, unfolding(crate::specs::Codec::encoded_of))]
 pub fn encode(b: &mut [u8], s: Session) -> u32
     ensures b_after { encoded result b.new ≡ encoded_of s b.old }
     ensures fitting { result ≡ 0 → Fitting s }

@@ -41,6 +41,7 @@ pub fn get8(b: &[u8], at: usize) -> u64
     low as u64 + high as u64 * 0x1_0000_0000
 }
 
+#[tactic(auto, unfolding(bits::specs::LittleEndian::bytes_of))]
 pub fn put1(b: &mut [u8], at: usize, v: u8)
     requires { at + 1 ≤ length b.old }
     ensures { b.new ≡ sets b.old at (bytes_of 1 v) }
@@ -186,6 +187,7 @@ fn flag_byte(on: bool) -> u8
     if on { 1 } else { 0 }
 }
 
+#[tactic(auto, unfolding(crate::specs::Runs::flag_of))]
 pub fn get_flag(b: &[u8], at: usize) -> bool
     requires { at + 1 ≤ length b.now }
     ensures { result ≡ flag_of (drop at b.now) }
@@ -193,6 +195,7 @@ pub fn get_flag(b: &[u8], at: usize) -> bool
     get1(b, at) == 1
 }
 
+#[tactic(auto, unfolding(crate::specs::Runs::flag_bytes))]
 pub fn put_flag(b: &mut [u8], at: usize, on: bool)
     requires { at + 1 ≤ length b.old }
     ensures { b.new ≡ sets b.old at (flag_bytes on) }

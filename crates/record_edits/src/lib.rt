@@ -1,4 +1,6 @@
 // Edits of a record in place: one part of its session is changed, and the rest stays as it is.
+#![tactic(auto)]
+
 ghost use Rattle.std.specs.Prelude.{◌≡◌, true, ◌+◌, ◌^◌, ◌<◌, ◌≤◌, length, take, drop};
 ghost use Rattle.std.proofs.lemmas.List.Edits.{sets};
 ghost use Rattle.regs.specs.Registers.{with_reg};
@@ -81,6 +83,7 @@ pub fn put_natural(b: &mut [u8], place: usize, value: u64)
 }
 
 // The field at a place of the table, where the widths stand in the order 16, 64, 32, natural.
+#[tactic(auto, unfolding(vmcs::specs::Fields::field_at))]
 pub fn put_field(b: &mut [u8], place: usize, value: u64)
     requires { (accepted_of b.old ≡ true) × (place < 154) × (value < 2 ^ width_bits (field_at place)) }
     ensures { Holds b.new (with_field (session_of b.old) (field_at place) value) }

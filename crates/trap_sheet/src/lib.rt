@@ -1,4 +1,6 @@
 // The trap sheet: which ports and which accesses to MSRs the three intercept frames trap, as text that an installer reads.
+#![tactic(auto)]
+
 mod lines;
 mod runs;
 mod search;
@@ -18,6 +20,7 @@ const TOTALS: usize = 3;
 const HALF: usize = 2048;
 
 // Puts the sheet at the start of output, and its length in bytes into length: refusals 2, 24. The length is found before anything is written.
+#[tactic(auto, unfolding(crate::specs::Sheet::trap_sheet))]
 pub fn trap_sheet(a: &[u8], b: &[u8], msr: &[u8], output: &mut [u8], length: &mut u64) -> u32
     ensures { record { refusal = result; output = output.new; size = length.new } ≡ trap_sheet a.now b.now msr.now output.old length.old }
 {

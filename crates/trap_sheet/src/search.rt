@@ -3,6 +3,7 @@ ghost use Rattle.std.specs.Prelude.{◌≡◌, ◌++◌, ◌+◌, ◌*◌, ◌�
 ghost use Rattle.trap_sheet.specs.Search.{all_are, Passed, Next};
 
 // The eight bytes from byte i on are all x.
+#[tactic(auto, unfolding(crate::specs::Search::all_are))]
 fn eight_are(bits: &[u8], i: usize, x: u8) -> bool
     requires { i + 8 ≤ length bits.now }
     ensures { result ≡ all_are bits.now i x 8 }

@@ -1,0 +1,12 @@
+use mathlib.Core.Path.{◌∙◌}
+use borrow.Author.Rules.{rules}
+use Rattle.bits.specs.LittleEndian.{little_endian}
+use Rattle.record.specs.Record as Record
+use Rattle.record.specs.Codec.{session_of}
+use Rattle.record.proofs.Loops.{read_all_at}
+use Rattle.record.proofs.w16_at.Goals as goal
+
+pub returns : goal.returns
+unfolding session_of
+returns c = let a = c.args in
+    c.get2.ensures ∙ read_all_at 2 (little_endian 2) 17 Record.W16 a.b.now a.place 0 (search rules)

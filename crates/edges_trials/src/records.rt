@@ -31,8 +31,7 @@ fn entry(rt: &impl Print, phase: u8, bytes: &mut [u8], shown: &mut [u8]) -> io::
             crate::byte_at(shown, Record::PHASE),
             crate::byte_at(shown, Record::ENTRIES),
         ],
-    )?;
-    Ok(())
+    )
 }
 
 // The entries are at their end.

@@ -1,6 +1,8 @@
 // An entry done in place on the record of a session: it reads what it needs, and writes only the bytes that change.
 // Ported from `inner_run` before the exit and `inject_pending_events` of x86_vcpu src/vmx/vcpu.rs, and `inject_event` of src/vmx/vmcs.rs (Copyright 2025 The
 // Axvisor Team, Apache-2.0). Changed: the session is the bytes of a record, no error code goes in while CR0.PE is clear, and the entry itself is the host's.
+#![tactic(auto)]
+
 ghost use Rattle.std.specs.Prelude.{◌≡◌, true, ℕ, ◌<◌};
 ghost use Rattle.vcpu_session.specs.Session.{LAST_ENTRY, with_vmcs, with_queue};
 ghost use Rattle.vcpu_events.specs.Queue.{front_of};
@@ -17,6 +19,7 @@ use vmcs::names::{VmcsControl32, VmcsGuest32, VmcsGuestNW, VmcsHostNW, VmcsReadO
 // ---- What an entry reads.
 
 // The front of the queue.
+#[tactic(auto, unfolding(record::specs::Codec::session_of))]
 fn front_at(b: &[u8]) -> Event
     requires { accepted_of b.now ≡ true }
     ensures { result ≡ front_of (session_of b.now).queue }
@@ -29,6 +32,7 @@ fn front_at(b: &[u8]) -> Event
 }
 
 // What the next entry does with the front of the queue.
+#[tactic(auto, unfolding(vcpu_events::specs::Entry::injection_of))]
 pub fn injection_at(b: &[u8]) -> Injection
     requires { accepted_of b.now ≡ true }
     ensures { result ≡ injection_of (session_of b.now).queue (session_of b.now).vmcs }
@@ -64,6 +68,7 @@ fn word_at(b: &[u8], e: Event) -> u32
 }
 
 // The error code that goes in with an event: the caller's, else the exit's.
+#[tactic(auto, unfolding(vcpu_events::specs::Entry::code_of))]
 fn code_at(b: &[u8], e: Event) -> u32
     requires { accepted_of b.now ≡ true }
     ensures { result ≡ code_of (session_of b.now).vmcs e }
@@ -75,6 +80,7 @@ fn code_at(b: &[u8], e: Event) -> u32
 }
 
 // Where no code goes in, the field is kept.
+#[tactic(auto, unfolding(vcpu_events::specs::Entry::with_code))]
 fn put_code(b: &mut [u8], e: Event)
     requires { accepted_of b.old ≡ true }
     ensures { Holds b.new (with_vmcs (session_of b.old) (with_code (session_of b.old).vmcs e)) }
@@ -87,6 +93,7 @@ fn put_code(b: &mut [u8], e: Event)
 }
 
 // Soft types copy the exit instruction length.
+#[tactic(auto, unfolding(vcpu_events::specs::Entry::with_length))]
 fn put_length(b: &mut [u8], e: Event)
     requires { accepted_of b.old ≡ true }
     ensures { Holds b.new (with_vmcs (session_of b.old) (with_length (session_of b.old).vmcs e)) }
@@ -99,6 +106,7 @@ fn put_length(b: &mut [u8], e: Event)
 }
 
 // The fields with an event to inject (`inject_event`).
+#[tactic(auto, unfolding(vcpu_events::specs::Entry::injected))]
 fn inject_event(b: &mut [u8], e: Event)
     requires { accepted_of b.old ≡ true }
     ensures { Holds b.new (with_vmcs (session_of b.old) (injected (session_of b.old).vmcs e)) }
@@ -112,6 +120,7 @@ fn inject_event(b: &mut [u8], e: Event)
 // ---- Entry.
 
 // The host's stack goes in at the first entry only.
+#[tactic(auto, unfolding(vcpu_events::specs::Entry::with_stack))]
 fn put_stack(b: &mut [u8], launched: bool, stack: u64)
     requires { accepted_of b.old ≡ true }
     ensures { Holds b.new (with_vmcs (session_of b.old) (with_stack (session_of b.old).vmcs launched stack)) }
@@ -125,6 +134,7 @@ fn put_stack(b: &mut [u8], launched: bool, stack: u64)
 const INTERRUPT_WINDOW_EXITING: u32 = 1 << PrimaryControls::INTERRUPT_WINDOW_EXITING;
 
 // Interrupt-window exiting on or off.
+#[tactic(auto, unfolding(vcpu_events::specs::Entry::window_set))]
 pub fn set_interrupt_window(b: &mut [u8], enable: bool)
     requires { accepted_of b.old ≡ true }
     ensures { Holds b.new (with_vmcs (session_of b.old) (window_set (session_of b.old).vmcs enable)) }
@@ -146,6 +156,7 @@ pub fn set_interrupt_window(b: &mut [u8], enable: bool)
 }
 
 // What an entry writes for the front of the queue: nothing, interrupt-window exiting, or the event.
+#[tactic(auto, unfolding(vcpu_events::specs::Entry::vmcs_after))]
 fn put_injection(b: &mut [u8], e: Event, injection: Injection)
     requires { accepted_of b.old ≡ true }
     ensures { Holds b.new (with_vmcs (session_of b.old) (vmcs_after (session_of b.old).vmcs e injection)) }
@@ -158,6 +169,7 @@ fn put_injection(b: &mut [u8], e: Event, injection: Injection)
 }
 
 // The front leaves the queue only where it is written.
+#[tactic(auto, unfolding(vcpu_events::specs::Entry::queue_after))]
 fn pop_written(b: &mut [u8], injection: Injection)
     requires { accepted_of b.old ≡ true }
     ensures { Holds b.new (with_queue (session_of b.old) (queue_after (session_of b.old).queue injection)) }
@@ -170,6 +182,7 @@ fn pop_written(b: &mut [u8], injection: Injection)
 }
 
 // The record after an accepted entry, which does `injection` with the front of the queue. The front is read before any byte is written.
+#[tactic(auto, unfolding(vcpu_events::specs::Entry::after_entry))]
 pub fn after_entry(b: &mut [u8], stack: u64, injection: Injection)
     requires { (accepted_of b.old ≡ true) × ((session_of b.old).progress.entries < LAST_ENTRY) }
     ensures { Holds b.new (after_entry (session_of b.old) stack injection) }

@@ -2,6 +2,8 @@
 // Ported from `inner_run` after the exit, `builtin_vmexit_handler` and the handlers that it calls of x86_vcpu src/vmx/vcpu.rs, and `update_efer` of
 // src/vmx/vmcs.rs (Copyright 2025 The Axvisor Team, Apache-2.0). Changed: the host hands in what the processor reported, the session is the bytes of a
 // record, every refusal is found before a byte is written, and a failed entry ends the session.
+#![tactic(auto)]
+
 ghost use Rattle.std.specs.Prelude.{◌≡◌, true, false, length};
 ghost use Rattle.vmcs.specs.Writes.{applied};
 ghost use Rattle.vcpu_session.specs.Session.{with_vmcs, with_xcr0};
@@ -40,6 +42,7 @@ fn entry_pair_at(b: &[u8]) -> Pair
 // ---- refusals
 
 // 15: a bit of CR0 or CR4 under its guest/host mask differs from the session's.
+#[tactic(auto, unfolding(vcpu_exit::specs::Refusal::owned_bits_differ))]
 fn owned_bits_differ(b: &[u8], r: Report) -> bool
     requires { length b.now ≡ LENGTH }
     ensures { result ≡ owned_bits_differ (session_of b.now).vmcs r }
@@ -52,6 +55,7 @@ fn owned_bits_differ(b: &[u8], r: Report) -> bool
 }
 
 // The refusal of a report, or 0: 1, not running; 14; 15; then those of the exit. An accepted record's session is never refused by 2.
+#[tactic(auto, unfolding(vcpu_exit::specs::Refusal::report_refusal))]
 pub fn report_refusal(b: &[u8], r: Report) -> u32
     requires { accepted_of b.now ≡ true }
     ensures { result ≡ report_refusal (session_of b.now) r }
@@ -92,6 +96,7 @@ fn store_guest(b: &mut [u8], r: Report)
 }
 
 // A failed entry stores no more than these two.
+#[tactic(auto, unfolding(vcpu_report::specs::Handlers::failure_stored))]
 fn store_failure(b: &mut [u8], r: Report)
     requires { accepted_of b.old ≡ true }
     ensures { Holds b.new (with_vmcs (session_of b.old) (failure_stored (session_of b.old).vmcs r)) }
@@ -101,6 +106,7 @@ fn store_failure(b: &mut [u8], r: Report)
 }
 
 // The guest's segments, and the exit words.
+#[tactic(auto, unfolding(vcpu_report::specs::Handlers::failure_stored))]
 fn store_exit(b: &mut [u8], r: Report)
     requires { accepted_of b.old ≡ true }
     ensures { Holds b.new (with_vmcs (session_of b.old) (applied (exit_writes (session_of b.old).vmcs r) (session_of b.old).vmcs)) }
@@ -117,6 +123,7 @@ fn store_exit(b: &mut [u8], r: Report)
 const VALID: u32 = 1 << InterruptionBits::VALID;
 
 // The report's fields. The valid bit of the entry interruption field is cleared.
+#[tactic(auto, unfolding(vcpu_report::specs::Handlers::stored))]
 fn store_report(b: &mut [u8], r: Report)
     requires { accepted_of b.old ≡ true }
     ensures { Holds b.new (with_vmcs (session_of b.old) (stored (session_of b.old).vmcs r)) }
@@ -134,6 +141,7 @@ fn store_report(b: &mut [u8], r: Report)
 // ---- by reason
 
 // The timer starts anew.
+#[tactic(auto, unfolding(vcpu_report::specs::Handlers::timer_set))]
 fn handle_vmx_preemption_timer(b: &mut [u8])
     requires { accepted_of b.old ≡ true }
     ensures { Holds b.new (with_vmcs (session_of b.old) (timer_set (session_of b.old).vmcs)) }
@@ -146,6 +154,7 @@ fn handle_vmx_preemption_timer(b: &mut [u8])
 }
 
 // `set_cr` of CR0.
+#[tactic(auto, unfolding(vcpu_report::specs::Handlers::cr0_set))]
 fn set_cr0(b: &mut [u8], fixed: Fixed, value: u64)
     requires { accepted_of b.old ≡ true }
     ensures { Holds b.new (with_vmcs (session_of b.old) (cr0_set (session_of b.old).vmcs fixed value)) }
@@ -157,6 +166,7 @@ fn set_cr0(b: &mut [u8], fixed: Fixed, value: u64)
 }
 
 // `set_cr` of CR4.
+#[tactic(auto, unfolding(vcpu_report::specs::Handlers::cr4_set))]
 fn set_cr4(b: &mut [u8], fixed: Fixed, value: u64)
     requires { accepted_of b.old ≡ true }
     ensures { Holds b.new (with_vmcs (session_of b.old) (cr4_set (session_of b.old).vmcs fixed value)) }
@@ -168,6 +178,7 @@ fn set_cr4(b: &mut [u8], fixed: Fixed, value: u64)
 }
 
 // EFER and the entry controls where paging is turned on.
+#[tactic(auto, unfolding(vcpu_report::specs::Handlers::efer_updated))]
 fn update_efer(b: &mut [u8], pair: Pair, efer: u64)
     requires { accepted_of b.old ≡ true }
     ensures { Holds b.new (with_vmcs (session_of b.old) (efer_updated (session_of b.old).vmcs pair efer)) }
@@ -179,6 +190,7 @@ fn update_efer(b: &mut [u8], pair: Pair, efer: u64)
 }
 
 // A move to CR0 or CR4.
+#[tactic(auto, unfolding(vcpu_report::specs::Handlers::cr_handled))]
 fn handle_cr(b: &mut [u8], r: Report)
     requires { accepted_of b.old ≡ true }
     ensures { Holds b.new (with_vmcs (session_of b.old) (cr_handled (session_of b.old).vmcs (session_of b.old).capabilities r)) }
@@ -198,6 +210,7 @@ fn handle_cr(b: &mut [u8], r: Report)
     }
 }
 
+#[tactic(auto, unfolding(vcpu_report::specs::Handlers::handled_as))]
 fn handle_as(b: &mut [u8], reason: u32, r: Report)
     requires { accepted_of b.old ≡ true }
     ensures { Holds b.new (with_vmcs (session_of b.old) (handled_as reason (session_of b.old).vmcs (session_of b.old).capabilities r)) }
@@ -217,6 +230,7 @@ fn handle_as(b: &mut [u8], reason: u32, r: Report)
 }
 
 // RIP past the instruction.
+#[tactic(auto, unfolding(vcpu_exit::specs::Reading::past_end, vcpu_report::specs::Handlers::rip_advanced))]
 fn advance_rip(b: &mut [u8], r: Report)
     requires { (accepted_of b.old ≡ true) × (past_end r ≡ false) }
     ensures { Holds b.new (with_vmcs (session_of b.old) (rip_advanced (session_of b.old).vmcs r)) }
@@ -227,6 +241,7 @@ fn advance_rip(b: &mut [u8], r: Report)
 }
 
 // The fields after an accepted exit.
+#[tactic(auto, unfolding(vcpu_report::specs::Handlers::vmcs_after))]
 fn vmcs_after(b: &mut [u8], r: Report)
     requires { (accepted_of b.old ≡ true) × (past_end r ≡ false) }
     ensures { Holds b.new (with_vmcs (session_of b.old) (vmcs_after (session_of b.old).vmcs (session_of b.old).capabilities r)) }
@@ -237,6 +252,7 @@ fn vmcs_after(b: &mut [u8], r: Report)
 }
 
 // XSETBV loads EDX:EAX into XCR0.
+#[tactic(auto, unfolding(vcpu_report::specs::ExitReport::xcr0_after))]
 fn handle_xsetbv(b: &mut [u8], r: Report)
     requires { accepted_of b.old ≡ true }
     ensures { Holds b.new (with_xcr0 (session_of b.old) (xcr0_after (session_of b.old).xcr0 r)) }
@@ -251,6 +267,7 @@ fn handle_xsetbv(b: &mut [u8], r: Report)
 // ---- the session after a report
 
 // A failed entry ends the session.
+#[tactic(auto, unfolding(vcpu_report::specs::ExitReport::failed_entry))]
 fn failed_entry(b: &mut [u8], r: Report)
     requires { accepted_of b.old ≡ true }
     ensures { Holds b.new (failed_entry (session_of b.old) r) }
@@ -259,6 +276,7 @@ fn failed_entry(b: &mut [u8], r: Report)
     record_edits::put_phase(b, Phase::ENDED);
 }
 
+#[tactic(auto, unfolding(vcpu_report::specs::ExitReport::after_exit))]
 fn after_exit(b: &mut [u8], r: Report)
     requires { (accepted_of b.old ≡ true) × (past_end r ≡ false) }
     ensures { Holds b.new (after_exit (session_of b.old) r) }
@@ -270,6 +288,7 @@ fn after_exit(b: &mut [u8], r: Report)
 }
 
 // The record after a report that is not refused, and what the host is to do.
+#[tactic(auto, unfolding(vcpu_report::specs::ExitReport::accepted))]
 pub fn accept(b: &mut [u8], r: Report) -> AxVCpuExitReason
     requires { (accepted_of b.old ≡ true) × (report_refusal (session_of b.old) r ≡ 0) }
     ensures value { result ≡ (accepted (session_of b.old) r).answer }

@@ -1,8 +1,10 @@
 // Makes each call on a session twice: exported, on a record, and by value. Prints what each answers, and whether the record holds the session that the call by value gives back.
+#![tactic(auto)]
+
 use blocks::{report, setup};
 use definitions::exit_reason::VmxExitReason;
-use libc::STDOUT_FILENO;
 use record::{Record, words};
+use std::io;
 use vcpu_events::{Event, Injection};
 use vcpu_session::Session;
 use vmcs::names::VmcsControl32;
@@ -54,22 +56,24 @@ fn is_held(bytes: &[u8; Record::LENGTH], s: Session) -> bool {
 }
 
 // A line: the call, its number exported and by value, and whether both left the same session.
-fn print(call: &[u8], exported: u32, value: u32, bytes: &[u8; Record::LENGTH], s: Session) {
-    io::write_all(STDOUT_FILENO, call);
-    io::write_all(STDOUT_FILENO, b": ");
-    io::print_decimal(STDOUT_FILENO, exported as u64);
-    io::write_all(STDOUT_FILENO, b" ");
-    io::print_decimal(STDOUT_FILENO, value as u64);
-    if is_held(bytes, s) {
-        io::write_all(STDOUT_FILENO, b" same\n");
+fn print(
+    rt: &impl Print,
+    call: &str,
+    exported: u32,
+    value: u32,
+    bytes: &[u8; Record::LENGTH],
+    s: Session,
+) -> io::Result<()> {
+    let held = if is_held(bytes, s) {
+        "same"
     } else {
-        io::write_all(STDOUT_FILENO, b" different\n");
-    }
+        "different"
+    };
+    println!(rt; "{call}: {exported} {value} {held}")
 }
 
-fn print_permitted(s: Session) {
+fn print_permitted(rt: &impl Print, s: Session) -> io::Result<()> {
     let fields = s.vmcs;
-    let capabilities = s.capabilities;
     let words = [
         fields.w32[VmcsControl32::PINBASED_EXEC_CONTROLS],
         fields.w32[VmcsControl32::PRIMARY_PROCBASED_EXEC_CONTROLS],
@@ -77,69 +81,99 @@ fn print_permitted(s: Session) {
         fields.w32[VmcsControl32::VMEXIT_CONTROLS],
         fields.w32[VmcsControl32::VMENTRY_CONTROLS],
     ];
-    let pairs = capabilities.pairs;
-    io::write_all(STDOUT_FILENO, b"control words permitted: ");
-    io::print_decimal(
-        STDOUT_FILENO,
-        vmcs::controls::all_permitted(pairs, words) as u64,
-    );
-    io::write_all(STDOUT_FILENO, b"\n");
+    let permitted = u8::from(vmcs::controls::all_permitted(s.capabilities.pairs, words));
+    println!(rt; "control words permitted: {permitted}")
 }
 
 // ---- The calls, each made on both sides.
 
 // A set up session, on both sides: the second setup is refused.
-fn set_up(bytes: &mut [u8; Record::LENGTH], s: Session) -> Session {
+fn set_up(rt: &impl Print, bytes: &mut [u8; Record::LENGTH], s: &mut Session) -> io::Result<()> {
     let block = block();
     let arguments = setup::arguments_at(&block);
     let mut a = [0u8; structs::FRAME_SIZE];
     let mut b = [0u8; structs::FRAME_SIZE];
     let mut msr = [0u8; structs::FRAME_SIZE];
     let exported = x86_vcpu::setup::vcpu_setup(bytes, &block, &mut a, &mut b, &mut msr);
-    let answered = vcpu_setup::setup(s, arguments);
-    let next = answered.session;
-    print(b"setup", exported, answered.refusal, bytes, next);
-    next
+    let answered = vcpu_setup::setup(*s, arguments);
+    *s = answered.session;
+    print(rt, "setup", exported, answered.refusal, bytes, *s)
 }
 
-fn queue(bytes: &mut [u8; Record::LENGTH], s: Session, e: Event) -> Session {
+fn queue(
+    rt: &impl Print,
+    bytes: &mut [u8; Record::LENGTH],
+    s: &mut Session,
+    e: Event,
+) -> io::Result<()> {
     let exported = x86_vcpu::session::vcpu_queue_event(bytes, e.vector, e.coded as u8, e.code);
-    let answered = vcpu::queue_event(s, e);
-    let next = answered.session;
-    print(b"queue_event", exported, answered.refusal, bytes, next);
-    next
+    let answered = vcpu::queue_event(*s, e);
+    *s = answered.session;
+    print(rt, "queue_event", exported, answered.refusal, bytes, *s)
 }
 
-fn inject(bytes: &mut [u8; Record::LENGTH], s: Session, vector: u64) -> Session {
+fn inject(
+    rt: &impl Print,
+    bytes: &mut [u8; Record::LENGTH],
+    s: &mut Session,
+    vector: u64,
+) -> io::Result<()> {
     let exported = x86_vcpu::session::vcpu_inject_interrupt(bytes, vector);
-    let answered = vcpu::inject_interrupt(s, vector);
-    let next = answered.session;
-    print(b"inject_interrupt", exported, answered.refusal, bytes, next);
-    next
+    let answered = vcpu::inject_interrupt(*s, vector);
+    *s = answered.session;
+    print(
+        rt,
+        "inject_interrupt",
+        exported,
+        answered.refusal,
+        bytes,
+        *s,
+    )
 }
 
-fn write_field(bytes: &mut [u8; Record::LENGTH], s: Session, encoding: u64, value: u64) -> Session {
+fn write_field(
+    rt: &impl Print,
+    bytes: &mut [u8; Record::LENGTH],
+    s: &mut Session,
+    encoding: u64,
+    value: u64,
+) -> io::Result<()> {
     let exported = x86_vcpu::session::vcpu_write_field(bytes, encoding, value);
-    let answered = vcpu::write_field(s, encoding, value);
-    let next = answered.session;
-    print(b"write_field", exported, answered.refusal, bytes, next);
-    next
+    let answered = vcpu::write_field(*s, encoding, value);
+    *s = answered.session;
+    print(rt, "write_field", exported, answered.refusal, bytes, *s)
 }
 
-fn set_register(bytes: &mut [u8; Record::LENGTH], s: Session, index: u64, value: u64) -> Session {
+fn set_register(
+    rt: &impl Print,
+    bytes: &mut [u8; Record::LENGTH],
+    s: &mut Session,
+    index: u64,
+    value: u64,
+) -> io::Result<()> {
     let exported = x86_vcpu::session::vcpu_set_reg_of_index(bytes, index, value);
-    let answered = vcpu::set_register(s, index, value);
-    let next = answered.session;
-    print(b"set_reg_of_index", exported, answered.refusal, bytes, next);
-    next
+    let answered = vcpu::set_register(*s, index, value);
+    *s = answered.session;
+    print(
+        rt,
+        "set_reg_of_index",
+        exported,
+        answered.refusal,
+        bytes,
+        *s,
+    )
 }
 
-fn apic_value(bytes: &mut [u8; Record::LENGTH], s: Session, value: u64) -> Session {
+fn apic_value(
+    rt: &impl Print,
+    bytes: &mut [u8; Record::LENGTH],
+    s: &mut Session,
+    value: u64,
+) -> io::Result<()> {
     let exported = x86_vcpu::session::vcpu_apic_value(bytes, value);
-    let answered = vcpu::apic_value(s, value);
-    let next = answered.session;
-    print(b"apic_value", exported, answered.refusal, bytes, next);
-    next
+    let answered = vcpu::apic_value(*s, value);
+    *s = answered.session;
+    print(rt, "apic_value", exported, answered.refusal, bytes, *s)
 }
 
 fn injection_number(injection: Injection) -> u64 {
@@ -151,53 +185,52 @@ fn injection_number(injection: Injection) -> u64 {
 }
 
 // An entry's results: resumed and the injection, exported and by value.
-fn print_entry(resumed: u8, injection: u8, by_value: bool, what: Injection) {
-    io::write_all(STDOUT_FILENO, b"    ");
-    io::print_decimal(STDOUT_FILENO, resumed as u64);
-    io::write_all(STDOUT_FILENO, b" ");
-    io::print_decimal(STDOUT_FILENO, by_value as u64);
-    io::write_all(STDOUT_FILENO, b" ");
-    io::print_decimal(STDOUT_FILENO, injection as u64);
-    io::write_all(STDOUT_FILENO, b" ");
-    io::print_decimal(STDOUT_FILENO, injection_number(what));
-    io::write_all(STDOUT_FILENO, b"\n");
+fn print_entry(
+    rt: &impl Print,
+    resumed: u8,
+    injection: u8,
+    by_value: bool,
+    what: Injection,
+) -> io::Result<()> {
+    let resumed_by_value = u8::from(by_value);
+    let injection_by_value = injection_number(what);
+    println!(rt; "    {resumed} {resumed_by_value} {injection} {injection_by_value}")
 }
 
-fn enter(bytes: &mut [u8; Record::LENGTH], s: Session) -> Session {
+fn enter(rt: &impl Print, bytes: &mut [u8; Record::LENGTH], s: &mut Session) -> io::Result<()> {
     let mut resumed: u8 = 9;
     let mut injection: u8 = 9;
     let exported = x86_vcpu::session::vcpu_entry(bytes, 0x1000, &mut resumed, &mut injection);
-    let entered = vcpu::entry(s, 0x1000);
-    let next = entered.session;
+    let entered = vcpu::entry(*s, 0x1000);
+    *s = entered.session;
     let what = entered.injection;
-    print(b"entry", exported, entered.refusal, bytes, next);
-    print_entry(resumed, injection, entered.resumed, what);
-    next
+    print(rt, "entry", exported, entered.refusal, bytes, *s)?;
+    print_entry(rt, resumed, injection, entered.resumed, what)
 }
 
 // The first words of an exit's answer, exported and by value.
-fn print_answers(exported: [u64; 8], by_value: [u64; 8]) {
-    io::write_all(STDOUT_FILENO, b"    ");
-    io::print_decimal(STDOUT_FILENO, exported[0]);
-    io::write_all(STDOUT_FILENO, b" ");
-    io::print_decimal(STDOUT_FILENO, by_value[0]);
-    io::write_all(STDOUT_FILENO, b" ");
-    io::print_hex(STDOUT_FILENO, exported[1], 1);
-    io::write_all(STDOUT_FILENO, b" ");
-    io::print_hex(STDOUT_FILENO, by_value[1], 1);
-    io::write_all(STDOUT_FILENO, b"\n");
+fn print_answers(rt: &impl Print, exported: [u64; 8], by_value: [u64; 8]) -> io::Result<()> {
+    println!(rt;
+        "    {} {} {:x} {:x}",
+        exported[0], by_value[0], exported[1], by_value[1]
+    )
 }
 
-fn exit_report(bytes: &mut [u8; Record::LENGTH], s: Session, reason: u32, rcx: u64) -> Session {
+fn exit_report(
+    rt: &impl Print,
+    bytes: &mut [u8; Record::LENGTH],
+    s: &mut Session,
+    reason: u32,
+    rcx: u64,
+) -> io::Result<()> {
     let block = exit(reason, rcx);
     let mut words = [0u64; 8];
     let exported = x86_vcpu::report::vcpu_exit_report(bytes, &block, &mut words);
-    let reported = vcpu::exit_report(s, report::report_at(&block));
-    let next = reported.session;
+    let reported = vcpu::exit_report(*s, report::report_at(&block));
+    *s = reported.session;
     let answer = reported.answer;
-    print(b"exit_report", exported, reported.refusal, bytes, next);
-    print_answers(words, vcpu_answers::answer_words(answer));
-    next
+    print(rt, "exit_report", exported, reported.refusal, bytes, *s)?;
+    print_answers(rt, words, vcpu_answers::answer_words(answer))
 }
 
 const PAGE_FAULT: Event = Event {
@@ -207,44 +240,44 @@ const PAGE_FAULT: Event = Event {
 };
 
 // Events queued and injected, a held one, an APIC read, an XSETBV, a failed entry, and at last pin controls that are not permitted.
-fn run(bytes: &mut [u8; Record::LENGTH], s: Session) -> Session {
-    let s = queue(bytes, s, PAGE_FAULT);
-    let s = inject(bytes, s, 0x20);
-    let s = inject(bytes, s, 0);
-    let s = inject(bytes, s, 256);
-    let s = apic_value(bytes, s, 7);
-    let s = enter(bytes, s);
-    let s = enter(bytes, s);
-    let s = exit_report(bytes, s, VmxExitReason::MSR_READ, 0x802);
-    let s = apic_value(bytes, s, 0x1_0000_0007);
-    let s = write_field(bytes, s, 0x6820, 2);
-    let s = write_field(bytes, s, 0x4402, 2);
-    let s = set_register(bytes, s, 15, 5);
-    let s = set_register(bytes, s, 4, 5);
-    let s = enter(bytes, s);
-    let s = exit_report(bytes, s, VmxExitReason::XSETBV, 0);
-    let s = enter(bytes, s);
-    let s = exit_report(bytes, s, 65, 0);
-    let s = exit_report(bytes, s, 0x8000_0021, 0);
-    let s = enter(bytes, s);
-    let s = queue(bytes, s, PAGE_FAULT);
-    let s = exit_report(bytes, s, VmxExitReason::HLT, 0);
-    write_field(bytes, s, 0x4000, 9)
+fn run(rt: &impl Print, bytes: &mut [u8; Record::LENGTH], s: &mut Session) -> io::Result<()> {
+    queue(rt, bytes, s, PAGE_FAULT)?;
+    inject(rt, bytes, s, 0x20)?;
+    inject(rt, bytes, s, 0)?;
+    inject(rt, bytes, s, 256)?;
+    apic_value(rt, bytes, s, 7)?;
+    enter(rt, bytes, s)?;
+    enter(rt, bytes, s)?;
+    exit_report(rt, bytes, s, VmxExitReason::MSR_READ, 0x802)?;
+    apic_value(rt, bytes, s, 0x1_0000_0007)?;
+    write_field(rt, bytes, s, 0x6820, 2)?;
+    write_field(rt, bytes, s, 0x4402, 2)?;
+    set_register(rt, bytes, s, 15, 5)?;
+    set_register(rt, bytes, s, 4, 5)?;
+    enter(rt, bytes, s)?;
+    exit_report(rt, bytes, s, VmxExitReason::XSETBV, 0)?;
+    enter(rt, bytes, s)?;
+    exit_report(rt, bytes, s, 65, 0)?;
+    exit_report(rt, bytes, s, 0x8000_0021, 0)?;
+    enter(rt, bytes, s)?;
+    queue(rt, bytes, s, PAGE_FAULT)?;
+    exit_report(rt, bytes, s, VmxExitReason::HLT, 0)?;
+    write_field(rt, bytes, s, 0x4000, 9)
 }
 
-fn main() {
+fn main(rt: HostRuntime) -> io::Result<()> {
     let mut bytes = [0u8; Record::LENGTH];
     let mut a = [0u8; structs::FRAME_SIZE];
     let mut b = [0u8; structs::FRAME_SIZE];
     let mut msr = [0u8; structs::FRAME_SIZE];
     let made = x86_vcpu::session::vcpu_new(&mut bytes, &mut a, &mut b, &mut msr);
     let decoded = record::decode(&bytes);
-    let fresh = decoded.session;
-    print(b"new", made, decoded.refusal, &bytes, fresh);
-    print_permitted(fresh);
-    let ready = set_up(&mut bytes, fresh);
-    print_permitted(ready);
-    let again = set_up(&mut bytes, ready);
-    let last = run(&mut bytes, again);
-    print_permitted(last);
+    let mut s = decoded.session;
+    print(&rt, "new", made, decoded.refusal, &bytes, s)?;
+    print_permitted(&rt, s)?;
+    set_up(&rt, &mut bytes, &mut s)?;
+    print_permitted(&rt, s)?;
+    set_up(&rt, &mut bytes, &mut s)?;
+    run(&rt, &mut bytes, &mut s)?;
+    print_permitted(&rt, s)
 }

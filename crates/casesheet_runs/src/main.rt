@@ -1,23 +1,21 @@
 // Prints what casesheet prints for each file of data/, after a line with the file's name.
-use libc::STDOUT_FILENO;
+#![tactic(auto)]
 
-fn run(name: &[u8]) {
-    io::write_all(STDOUT_FILENO, name);
-    let fd = os::open_read(name);
-    if fd < 0 {
-        io::write_all(STDOUT_FILENO, b" cannot be opened\n");
-        return;
-    }
-    io::write_all(STDOUT_FILENO, b"\n");
-    sheet::file::print_sheet(fd);
-    libc::close(fd);
+use std::fs::File;
+use std::io;
+
+fn run(rt: &HostRuntime, name: &str) -> io::Result<()> {
+    let Ok(mut file) = File::open(rt, name) else {
+        return println!(rt; "{name} cannot be opened");
+    };
+    println!(rt; "{name}")?;
+    sheet::file::print_sheet(&mut file, &mut io::writer(rt))
 }
 
 // Edge lines; no input; 65,536 and 65,537 bytes; the oracle's list.
-fn main() {
-    run(b"edges");
-    run(b"empty");
-    run(b"full");
-    run(b"long");
-    run(b"list");
+fn main(rt: HostRuntime) -> io::Result<()> {
+    for name in ["edges", "empty", "full", "long", "list"] {
+        run(&rt, name)?;
+    }
+    Ok(())
 }

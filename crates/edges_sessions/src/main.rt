@@ -1,10 +1,13 @@
 // Prints the edges of documents 01 and 02 of the calls on a session, as the exported functions answer them: records, events, entries and reports. The lines are as in the program edges, and
 // tools/edges.py says what must be printed.
+#![tactic(auto)]
+
 mod events;
 mod reports;
 mod sessions;
 
 use record::{Record, words};
+use std::io;
 
 // Store numbers of the record.
 fn put1(bytes: &mut [u8; Record::LENGTH], at: usize, value: u8) {
@@ -70,12 +73,12 @@ fn write(bytes: &mut [u8; Record::LENGTH], encoding: u64, value: u64) -> u32 {
     x86_vcpu::session::vcpu_write_field(bytes, encoding, value)
 }
 
-fn main() {
-    sessions::records();
-    sessions::queues();
-    sessions::entries();
-    events::events();
-    sessions::apic_values();
-    reports::reports();
-    reports::control_registers();
+fn main(rt: HostRuntime) -> io::Result<()> {
+    sessions::records(&rt)?;
+    sessions::queues(&rt)?;
+    sessions::entries(&rt)?;
+    events::events(&rt)?;
+    sessions::apic_values(&rt)?;
+    reports::reports(&rt)?;
+    reports::control_registers(&rt)
 }

@@ -1,11 +1,14 @@
 // Prints the edges of documents 01 and 02 of setup, and of XCR0 in a session that is set up, as the exported functions answer them. The lines are as in the program edges, and tools/edges.py says what
 // must be printed.
+#![tactic(auto)]
+
 mod pairs;
 mod setups;
 mod xcr0;
 
 use blocks::setup::Layout;
 use record::{Record, words};
+use std::io;
 use structs::FRAME_SIZE;
 
 // The record of a new session, which is zeros, in a phase.
@@ -59,8 +62,8 @@ fn set_up(bytes: &mut [u8; Record::LENGTH], block: &[u8; Layout::LENGTH]) -> u32
     x86_vcpu::setup::vcpu_setup(bytes, block, &mut a, &mut b, &mut msr)
 }
 
-fn main() {
-    setups::setups();
-    pairs::pairs();
-    xcr0::xcr0();
+fn main(rt: HostRuntime) -> io::Result<()> {
+    setups::setups(&rt)?;
+    pairs::pairs(&rt)?;
+    xcr0::xcr0(&rt)
 }

@@ -2,6 +2,7 @@
 use blocks::report::Layout;
 use blocks::setup;
 use record::{Record, words};
+use std::io;
 
 fn xcr0_of(bytes: &[u8; Record::LENGTH]) -> u64 {
     let mut xcr0: u64 = 0;
@@ -23,13 +24,13 @@ fn set_up(bytes: &mut [u8; Record::LENGTH], supported: u64) {
 }
 
 // The reading, of a record in a phase that holds this value.
-fn reading(phase: u8, value: u64) {
+fn reading(rt: &impl Print, phase: u8, value: u64) -> io::Result<()> {
     let mut bytes = crate::in_phase(phase);
     words::put8(&mut bytes, Record::XCR0, value);
     let mut xcr0: u64 = 0;
     let refusal = x86_vcpu::readings::vcpu_get_xcr0(&bytes, &mut xcr0);
-    replay::print_call(b"get_xcr0", &[phase as u64, value]);
-    replay::print_answer(refusal, &[xcr0]);
+    replay::print_call(rt, b"get_xcr0", &[phase as u64, value])?;
+    replay::print_answer(rt, refusal, &[xcr0])
 }
 
 fn enter(bytes: &mut [u8; Record::LENGTH]) {
@@ -53,89 +54,110 @@ fn block_of(rdx: u64, rax: u64, rcx: u64, rip: u64) -> [u8; Layout::LENGTH] {
 }
 
 // The answer's number, XCR0 and RIP after a report.
-fn print_report(bytes: &mut [u8; Record::LENGTH], block: &[u8; Layout::LENGTH]) {
+fn print_report(
+    rt: &impl Print,
+    bytes: &mut [u8; Record::LENGTH],
+    block: &[u8; Layout::LENGTH],
+) -> io::Result<()> {
     let mut answer = [0u64; 8];
     let refusal = x86_vcpu::report::vcpu_exit_report(bytes, block, &mut answer);
-    replay::print_answer(refusal, &[answer[0], xcr0_of(bytes), rip_of(bytes)]);
+    replay::print_answer(rt, refusal, &[answer[0], xcr0_of(bytes), rip_of(bytes)])
 }
 
-fn xsetbv(supported: u64, rdx: u64, rax: u64, rcx: u64, rip: u64) {
+fn xsetbv(
+    rt: &impl Print,
+    supported: u64,
+    rdx: u64,
+    rax: u64,
+    rcx: u64,
+    rip: u64,
+) -> io::Result<()> {
     let mut bytes = crate::in_phase(0);
     set_up(&mut bytes, supported);
     enter(&mut bytes);
     let block = block_of(rdx, rax, rcx, rip);
-    replay::print_call(b"exit_report, XSETBV", &[supported, rdx, rax, rcx, rip]);
-    print_report(&mut bytes, &block);
+    replay::print_call(rt, b"exit_report, XSETBV", &[supported, rdx, rax, rcx, rip])?;
+    print_report(rt, &mut bytes, &block)
 }
 
 // EDX:EAX alone.
-fn value(supported: u64, value: u64) {
-    xsetbv(supported, value >> 32, value % 0x1_0000_0000, 0, 0x1000);
+fn value(rt: &impl Print, supported: u64, value: u64) -> io::Result<()> {
+    xsetbv(rt, supported, value >> 32, value % 0x1_0000_0000, 0, 0x1000)
 }
 
-fn x87_sse_avx() {
-    value(7, 1);
-    value(7, 3);
-    value(7, 7);
-    value(7, 0);
-    value(7, 2);
-    value(7, 5);
-    value(7, 6);
+fn x87_sse_avx(rt: &impl Print) -> io::Result<()> {
+    for value in [1, 3, 7, 0, 2, 5, 6] {
+        value(rt, 7, value)?;
+    }
+    Ok(())
 }
 
-fn mpx() {
-    value(7, 0xF);
-    value(0x1F, 0x19);
-    value(0x1F, 0x1F);
-    value(0x1F, 0x9);
-    value(0x1F, 0x11);
+fn mpx(rt: &impl Print) -> io::Result<()> {
+    for (supported, value) in [
+        (7, 0xF),
+        (0x1F, 0x19),
+        (0x1F, 0x1F),
+        (0x1F, 0x9),
+        (0x1F, 0x11),
+    ] {
+        value(rt, supported, value)?;
+    }
+    Ok(())
 }
 
-fn avx512() {
-    value(0xE7, 0xE7);
-    value(0xE7, 0xE3);
-    value(0xE7, 0x27);
-    value(0xE7, 0xC7);
-    value(0xE7, 0xA7);
-    value(0xE7, 0x67);
+fn avx512(rt: &impl Print) -> io::Result<()> {
+    for value in [0xE7, 0xE3, 0x27, 0xC7, 0xA7, 0x67] {
+        value(rt, 0xE7, value)?;
+    }
+    Ok(())
 }
 
-fn amx() {
-    value(0x6_0007, 0x6_0001);
-    value(0x6_0007, 0x2_0001);
-    value(0x6_0007, 0x4_0001);
+fn amx(rt: &impl Print) -> io::Result<()> {
+    for value in [0x6_0001, 0x2_0001, 0x4_0001] {
+        value(rt, 0x6_0007, value)?;
+    }
+    Ok(())
 }
 
-fn supported_alone() {
-    value(0x207, 0x201);
-    value(7, 0x201);
-    value(0xFFFF_FFFF_FFFF_FFFF, 0x101);
-    value(0xFFFF_FFFF_FFFF_FFFF, 0x8000_0000_0000_0001);
-    value(0xFFFF_FFFF_FFFF_FFFF, 0xFFFF_FFFF_FFFF_FFFF);
-    value(6, 7);
-    value(6, 1);
-    value(0, 1);
+fn supported_alone(rt: &impl Print) -> io::Result<()> {
+    for (supported, value) in [
+        (0x207, 0x201),
+        (7, 0x201),
+        (0xFFFF_FFFF_FFFF_FFFF, 0x101),
+        (0xFFFF_FFFF_FFFF_FFFF, 0x8000_0000_0000_0001),
+        (0xFFFF_FFFF_FFFF_FFFF, 0xFFFF_FFFF_FFFF_FFFF),
+        (6, 7),
+        (6, 1),
+        (0, 1),
+    ] {
+        value(rt, supported, value)?;
+    }
+    Ok(())
 }
 
-fn registers_and_rip() {
-    xsetbv(7, 0, 3, 0x1_0000_0000, 0x1000);
-    xsetbv(7, 0, 3, 1, 0x1000);
-    xsetbv(7, 0, 2, 1, 0x1000);
-    xsetbv(7, 0xFFFF_FFFF_0000_0000, 0xFFFF_FFFF_0000_0003, 0, 0x1000);
-    xsetbv(7, 0, 3, 0, 0xFFFF_FFFF_FFFF_FFFC);
-    xsetbv(7, 0, 3, 0, 0xFFFF_FFFF_FFFF_FFFD);
-    xsetbv(7, 0, 2, 0, 0xFFFF_FFFF_FFFF_FFFD);
+fn registers_and_rip(rt: &impl Print) -> io::Result<()> {
+    for (rdx, rax, rcx, rip) in [
+        (0, 3, 0x1_0000_0000, 0x1000),
+        (0, 3, 1, 0x1000),
+        (0, 2, 1, 0x1000),
+        (0xFFFF_FFFF_0000_0000, 0xFFFF_FFFF_0000_0003, 0, 0x1000),
+        (0, 3, 0, 0xFFFF_FFFF_FFFF_FFFC),
+        (0, 3, 0, 0xFFFF_FFFF_FFFF_FFFD),
+        (0, 2, 0, 0xFFFF_FFFF_FFFF_FFFD),
+    ] {
+        xsetbv(rt, 7, rdx, rax, rcx, rip)?;
+    }
+    Ok(())
 }
 
-pub fn xcr0() {
-    reading(0, 0);
-    reading(0, 0xFFFF_FFFF_FFFF_FFFE);
-    reading(4, 2);
-    reading(5, 1);
-    x87_sse_avx();
-    mpx();
-    avx512();
-    amx();
-    supported_alone();
-    registers_and_rip();
+pub fn xcr0(rt: &impl Print) -> io::Result<()> {
+    for (phase, value) in [(0, 0), (0, 0xFFFF_FFFF_FFFF_FFFE), (4, 2), (5, 1)] {
+        reading(rt, phase, value)?;
+    }
+    x87_sse_avx(rt)?;
+    mpx(rt)?;
+    avx512(rt)?;
+    amx(rt)?;
+    supported_alone(rt)?;
+    registers_and_rip(rt)
 }

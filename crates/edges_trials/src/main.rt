@@ -1,7 +1,11 @@
 // Prints the edges of the trials (document 02, N5), as the exported functions answer them: the order of 2, 25 and the call's own numbers, and what is shown. The lines are as in the program
 // edges, and tools/edges.py says what must be printed.
+#![tactic(auto)]
+
 mod frames;
 mod records;
+
+use std::io;
 
 // What the second buffers hold before a trial.
 const BEFORE: u8 = 0xEE;
@@ -17,9 +21,9 @@ fn byte_at(bytes: &[u8], at: usize) -> u64 {
     0
 }
 
-fn main() {
-    records::entries();
-    records::reports();
-    frames::ports();
-    frames::msrs();
+fn main(rt: HostRuntime) -> io::Result<()> {
+    records::entries(&rt)?;
+    records::reports(&rt)?;
+    frames::ports(&rt)?;
+    frames::msrs(&rt)
 }

@@ -1,7 +1,6 @@
 // The text of lists: each is a comment, and then a case to a line, small hexadecimal numbers parted by blanks.
 ghost use Rattle.std.specs.Prelude.{◌≡◌, ◌+◌, ◌≤◌, min, length};
-ghost use Rattle.io.specs.Counts.{IsPrefixLen};
-ghost use Rattle.replay.specs.Text.{digit_value, number_at, after_byte, case_at, line_end, starts_with};
+ghost use Rattle.replay.specs.Text.{digit_value, number_at, IsPrefixLen, after_byte, case_at, line_end, starts_with};
 
 // A number, and the place after it and its blank.
 #[derive(Drop)]

@@ -1,6 +1,7 @@
 // An event goes in, by an entry with it at the front of the queue, and three fields are printed. PE of CR0 is set: else no error code goes in, as it does in the
 // original. The list leaves out vectors 1 and 21, whose types are document 02's.
 use record::{Record, words};
+use std::io;
 use vcpu_session::Phase;
 use vmcs::names::VmcsReadOnly32;
 
@@ -51,15 +52,11 @@ fn enter(bytes: &mut [u8; Record::LENGTH], n: [u64; 8]) -> u32 {
     x86_vcpu::session::vcpu_entry(bytes, 0, &mut resumed, &mut injection)
 }
 
-pub fn inject_event(n: [u64; 8]) {
+pub fn inject_event(rt: &impl Print, n: [u64; 8]) -> io::Result<()> {
     let mut bytes = ready(n);
     let refusal = enter(&mut bytes, n);
-    if refusal != 0 {
-        replay::print_refused(refusal);
-        return;
-    }
     let word = crate::read(&bytes, VMENTRY_INTERRUPTION_INFO_FIELD);
     let code = crate::read(&bytes, VMENTRY_EXCEPTION_ERR_CODE);
     let length = crate::read(&bytes, VMENTRY_INSTRUCTION_LEN);
-    replay::print_numbers(&[word, code, length]);
+    replay::print_answer(rt, refusal, &[word, code, length])
 }

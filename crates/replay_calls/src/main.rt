@@ -1,16 +1,18 @@
 // Replays the oracle's lists of events, setups and exits by the exported functions, on records, blocks and frames as a host holds them. Reads the lists from standard input, and prints the
 // core's answers.
+#![tactic(auto)]
+
 mod inject_event;
 mod setup;
 
 use blocks::report::Layout;
-use libc::{STDIN_FILENO, STDOUT_FILENO};
 use record::{Record, words};
+use std::io;
 use structs::FRAME_SIZE;
 use vcpu_session::Phase;
 
 // The lists, by the oracle's names.
-#[derive(Drop)]
+#[derive(Clone, Copy)]
 enum List {
     Unknown,
     InjectEvent,
@@ -57,11 +59,9 @@ fn put_byte(b: &mut [u8], at: usize, value: u8) {
 // Stores the low bytes of a number at the places from `from` to `to`.
 fn put(b: &mut [u8], from: usize, to: usize, value: u64) {
     let mut rest = value;
-    let mut i = from;
-    while i < to {
+    for i in from..to {
         put_byte(b, i, (rest % 0x100) as u8);
-        rest = rest / 0x100;
-        i += 1;
+        rest /= 0x100;
     }
 }
 
@@ -72,10 +72,8 @@ fn number_at(numbers: [u64; 46], place: usize) -> u64 {
 
 // Stores the numbers from place 1 on: each has an offset, and goes up to the next one.
 fn put_all(b: &mut [u8], offsets: &[usize], numbers: [u64; 46]) {
-    let mut i = 1;
-    while i < offsets.len() {
+    for i in 1..offsets.len() {
         put(b, offsets[i - 1], offsets[i], number_at(numbers, i));
-        i += 1;
     }
 }
 
@@ -99,12 +97,12 @@ fn change_argument(numbers: &mut [u64; 46], place: u64, value: u64) {
 }
 
 // A case is four pairs of a place and a value.
-fn answer_setup(numbers: &mut [u64; 46], n: [u64; 8]) {
+fn answer_setup(rt: &impl Print, numbers: &mut [u64; 46], n: [u64; 8]) -> io::Result<()> {
     change_argument(numbers, n[0], n[1]);
     change_argument(numbers, n[2], n[3]);
     change_argument(numbers, n[4], n[5]);
     change_argument(numbers, n[6], n[7]);
-    setup::answer(*numbers);
+    setup::answer(rt, *numbers)
 }
 
 // ---- Exit reports: each case changes numbers of the report, words kept from setup and fields of the session, and the running session takes the report. The eight
@@ -153,10 +151,8 @@ const REPORT_OFFSETS: [usize; 37] = [
 
 // The words kept from setup stand at places 37 to 45, in the order of the record: five pairs, allowed-1 in the high half, and four words of fixed bits.
 fn put_kept(bytes: &mut [u8; Record::LENGTH], n: [u64; 46]) {
-    let mut i: usize = 0;
-    while i < 9 {
+    for i in 0..9 {
         words::put8(bytes, Record::PAIRS + 8 * i, n[i + 37]);
-        i += 1;
     }
 }
 
@@ -171,28 +167,33 @@ fn change(bytes: &mut [u8; Record::LENGTH], numbers: &mut [u64; 46], place: u64,
 }
 
 // Takes the report of these numbers, and prints the answer.
-fn take_report(bytes: &mut [u8; Record::LENGTH], n: [u64; 46]) {
+fn take_report(rt: &impl Print, bytes: &mut [u8; Record::LENGTH], n: [u64; 46]) -> io::Result<()> {
     put_kept(bytes, n);
     words::put1(bytes, Record::PHASE, Phase::RUNNING);
     let mut block = [0u8; Layout::LENGTH];
     put_all(&mut block, &REPORT_OFFSETS, n);
     let mut w = [0u64; 8];
     let refusal = x86_vcpu::report::vcpu_exit_report(bytes, &block, &mut w);
-    if refusal == 0 {
-        let digest = replay::digest_of(bytes);
-        replay::print_numbers(&[w[0], w[1], w[2], w[3], w[4], w[5], w[6], w[7], digest]);
-    } else {
-        replay::print_refused(refusal);
-    }
+    let digest = replay::digest_of(bytes);
+    replay::print_answer(
+        rt,
+        refusal,
+        &[w[0], w[1], w[2], w[3], w[4], w[5], w[6], w[7], digest],
+    )
 }
 
 // A case is four pairs of a place and a value.
-fn answer_exit_report(bytes: &mut [u8; Record::LENGTH], numbers: &mut [u64; 46], n: [u64; 8]) {
+fn answer_exit_report(
+    rt: &impl Print,
+    bytes: &mut [u8; Record::LENGTH],
+    numbers: &mut [u64; 46],
+    n: [u64; 8],
+) -> io::Result<()> {
     change(bytes, numbers, n[0], n[1]);
     change(bytes, numbers, n[2], n[3]);
     change(bytes, numbers, n[4], n[5]);
     change(bytes, numbers, n[6], n[7]);
-    take_report(bytes, *numbers);
+    take_report(rt, bytes, *numbers)
 }
 
 // The refusal of a report of this reason, to a new session that runs.
@@ -207,34 +208,41 @@ fn reason_refusal(reason: u32) -> u32 {
 
 // The parts of a full reason, or 14 where a report of the reason is refused by it. The list has the Rust's decoder, which takes bit 31 with any reason, so
 // the report is asked without bit 31. The Rust also has names for reasons 65 to 69, which document 01 refuses by 14: the list has no case of them.
-fn exit_info(n: [u64; 8]) {
+fn exit_info(rt: &impl Print, n: [u64; 8]) -> io::Result<()> {
     let full_reason = bits::low(n[0]);
     let info = vmcs::exit_info::exit_info(full_reason);
     let refusal = reason_refusal(full_reason % 0x8000_0000);
     if refusal == 14 {
-        replay::print_refused(refusal);
+        replay::print_refused(rt, refusal)
     } else {
-        replay::print_numbers(&[info.entry_failure as u64, info.exit_reason as u64]);
+        replay::print_numbers(
+            rt,
+            &[u64::from(info.entry_failure), u64::from(info.exit_reason)],
+        )
     }
 }
 
 // ---- Every list.
 
 // Prints the answer to one case. The record and the numbers are what the lists go on with from case to case.
-fn answer(list: List, n: [u64; 8], bytes: &mut [u8; Record::LENGTH], numbers: &mut [u64; 46]) {
+fn answer(
+    rt: &impl Print,
+    list: List,
+    n: [u64; 8],
+    bytes: &mut [u8; Record::LENGTH],
+    numbers: &mut [u64; 46],
+) -> io::Result<()> {
     match list {
-        List::Unknown => {
-            io::write_all(STDOUT_FILENO, b"no such list\n");
-        }
-        List::InjectEvent => inject_event::inject_event(n),
-        List::Setup => answer_setup(numbers, n),
-        List::ExitInfo => exit_info(n),
-        List::ExitReport => answer_exit_report(bytes, numbers, n),
+        List::Unknown => println!(rt; "no such list"),
+        List::InjectEvent => inject_event::inject_event(rt, n),
+        List::Setup => answer_setup(rt, numbers, n),
+        List::ExitInfo => exit_info(rt, n),
+        List::ExitReport => answer_exit_report(rt, bytes, numbers, n),
     }
 }
 
 // A comment starts a list, with everything anew.
-fn answer_all(text: &[u8]) {
+fn answer_all(rt: &impl Print, text: &[u8]) -> io::Result<()> {
     let mut list = List::Unknown;
     let mut bytes = new_record();
     let mut numbers = [0u64; 46];
@@ -245,18 +253,18 @@ fn answer_all(text: &[u8]) {
             list = list_of(rest);
             bytes = new_record();
             numbers = [0; 46];
-            at += replay::print_comment(rest);
+            at += replay::print_comment(rt, rest)?;
         } else {
             let case = replay::case_at(text, at);
-            let values = case.numbers;
-            answer(list, values, &mut bytes, &mut numbers);
+            answer(rt, list, case.numbers, &mut bytes, &mut numbers)?;
             at = case.next;
         }
     }
+    Ok(())
 }
 
-fn main() {
+fn main(rt: HostRuntime) -> io::Result<()> {
     let mut input = replay::buffer();
-    let n = io::read_full(STDIN_FILENO, &mut input);
-    answer_all(&input[..n]);
+    let read = streams::fill(&mut rt.reader(), &mut input)?;
+    answer_all(&rt, &input[..read])
 }

@@ -1,6 +1,7 @@
 // Setup: each case changes numbers of setup's arguments and sets up a new session. The five control words, a digest of the record and the sum of the frames'
 // digests are printed.
 use blocks::setup::Layout;
+use std::io;
 use structs::FRAME_SIZE;
 
 const PINBASED_EXEC_CONTROLS: u64 = 0x4000;
@@ -72,7 +73,7 @@ fn sum_of_digests(a: &[u8; FRAME_SIZE], b: &[u8; FRAME_SIZE], msr: &[u8; FRAME_S
 }
 
 // Sets a new session up, with the frames full of the byte at place 43, and prints the answer.
-pub fn answer(n: [u64; 46]) {
+pub fn answer(rt: &impl Print, n: [u64; 46]) -> io::Result<()> {
     let fill = byte(n[43]);
     let mut bytes = crate::new_record();
     let mut a = [fill; FRAME_SIZE];
@@ -81,16 +82,17 @@ pub fn answer(n: [u64; 46]) {
     let mut block = [0u8; Layout::LENGTH];
     crate::put_all(&mut block, &OFFSETS, n);
     let refusal = x86_vcpu::setup::vcpu_setup(&mut bytes, &block, &mut a, &mut b, &mut msr);
-    if refusal != 0 {
-        replay::print_refused(refusal);
-        return;
-    }
-    let pin = crate::read(&bytes, PINBASED_EXEC_CONTROLS);
-    let primary = crate::read(&bytes, PRIMARY_PROCBASED_EXEC_CONTROLS);
-    let secondary = crate::read(&bytes, SECONDARY_PROCBASED_EXEC_CONTROLS);
-    let exit = crate::read(&bytes, VMEXIT_CONTROLS);
-    let entry = crate::read(&bytes, VMENTRY_CONTROLS);
-    let digest = replay::digest_of(&bytes);
-    let frames = sum_of_digests(&a, &b, &msr);
-    replay::print_numbers(&[pin, primary, secondary, exit, entry, digest, frames]);
+    replay::print_answer(
+        rt,
+        refusal,
+        &[
+            crate::read(&bytes, PINBASED_EXEC_CONTROLS),
+            crate::read(&bytes, PRIMARY_PROCBASED_EXEC_CONTROLS),
+            crate::read(&bytes, SECONDARY_PROCBASED_EXEC_CONTROLS),
+            crate::read(&bytes, VMEXIT_CONTROLS),
+            crate::read(&bytes, VMENTRY_CONTROLS),
+            replay::digest_of(&bytes),
+            sum_of_digests(&a, &b, &msr),
+        ],
+    )
 }

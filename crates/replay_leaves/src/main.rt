@@ -1,13 +1,15 @@
 // Replays lists of the oracle whose answers need no session that was set up, by the exported functions: control words, encodings, intercepts and readings. Reads the lists from standard
 // input, and prints the core's answers.
+#![tactic(auto)]
+
 mod readings;
 
-use libc::{STDIN_FILENO, STDOUT_FILENO};
 use record::Record;
+use std::io;
 use structs::FRAME_SIZE;
 
 // The lists, by the oracle's names.
-#[derive(Drop)]
+#[derive(Clone, Copy)]
 enum List {
     Unknown,
     SetControl,
@@ -45,7 +47,7 @@ fn list_of(text: &[u8]) -> List {
     List::Unknown
 }
 
-fn set_control(n: [u64; 8]) {
+fn set_control(rt: &impl Print, n: [u64; 8]) -> io::Result<()> {
     let mut word: u32 = 0;
     let refusal = x86_vcpu::vcpu_set_control(
         bits::low(n[0]),
@@ -55,17 +57,13 @@ fn set_control(n: [u64; 8]) {
         bits::low(n[4]),
         &mut word,
     );
-    if refusal == 0 {
-        replay::print_numbers(&[word as u64]);
-    } else {
-        replay::print_refused(refusal);
-    }
+    replay::print_answer(rt, refusal, &[u64::from(word)])
 }
 
 // ---- Encodings.
 
 // An access to a field.
-#[derive(Drop)]
+#[derive(Clone, Copy)]
 enum Access {
     Read,
     Write(u64),
@@ -82,17 +80,15 @@ fn access_refusal(bytes: &mut [u8; Record::LENGTH], access: Access, encoding: u6
 // Bit i says whether an access to the field of the encoding first + i is accepted.
 fn mask(bytes: &mut [u8; Record::LENGTH], access: Access, first: u32, count: u32) -> u64 {
     let mut accepted: u64 = 0;
-    let mut i = count;
-    while 0 < i {
-        i -= 1;
-        let refusal = access_refusal(bytes, access, first as u64 + i as u64);
-        accepted = accepted << 1 | (refusal == 0) as u64;
+    for i in (0..count).rev() {
+        let refusal = access_refusal(bytes, access, u64::from(first) + u64::from(i));
+        accepted = accepted << 1 | u64::from(refusal == 0);
     }
     accepted
 }
 
 // Which encodings name a field, and which of three values it takes.
-fn encodings(n: [u64; 8]) {
+fn encodings(rt: &impl Print, n: [u64; 8]) -> io::Result<()> {
     let mut bytes = [0u8; Record::LENGTH];
     let first = bits::low(n[0]);
     let count = bits::low(n[1]);
@@ -100,32 +96,25 @@ fn encodings(n: [u64; 8]) {
     let zero = mask(&mut bytes, Access::Write(0), first, count);
     let short = mask(&mut bytes, Access::Write(0x1_0000), first, count);
     let long = mask(&mut bytes, Access::Write(0x1_0000_0000), first, count);
-    replay::print_numbers(&[read, zero, short, long]);
+    replay::print_numbers(rt, &[read, zero, short, long])
 }
 
 // ---- Edits of the intercept frames, each on what the last left.
-
-fn print_digest(refusal: u32, frame: &[u8; FRAME_SIZE]) {
-    if refusal == 0 {
-        replay::print_numbers(&[replay::digest_of(frame)]);
-    } else {
-        replay::print_refused(refusal);
-    }
-}
 
 fn yes_no(x: u64) -> u8 {
     (x % 0x100) as u8
 }
 
-fn io_intercepts(a: &mut [u8; FRAME_SIZE], b: &mut [u8; FRAME_SIZE], n: [u64; 8]) {
+fn io_intercepts(
+    rt: &impl Print,
+    a: &mut [u8; FRAME_SIZE],
+    b: &mut [u8; FRAME_SIZE],
+    n: [u64; 8],
+) -> io::Result<()> {
     let port_base = bits::low(n[0]);
     let count = bits::low(n[1]);
     let refusal = x86_vcpu::vcpu_set_io_intercept_of_range(a, b, port_base, count, yes_no(n[2]));
-    if refusal == 0 {
-        replay::print_numbers(&[replay::digest_of(a), replay::digest_of(b)]);
-    } else {
-        replay::print_refused(refusal);
-    }
+    replay::print_answer(rt, refusal, &[replay::digest_of(a), replay::digest_of(b)])
 }
 
 fn edit_msr(frame: &mut [u8; FRAME_SIZE], access: u64, msr: u32, intercept: u8) -> u32 {
@@ -138,31 +127,35 @@ fn edit_msr(frame: &mut [u8; FRAME_SIZE], access: u64, msr: u32, intercept: u8) 
     x86_vcpu::vcpu_set_msr_intercept_of_range(frame, msr, intercept)
 }
 
-fn msr_intercepts(frame: &mut [u8; FRAME_SIZE], n: [u64; 8]) {
+fn msr_intercepts(rt: &impl Print, frame: &mut [u8; FRAME_SIZE], n: [u64; 8]) -> io::Result<()> {
     let refusal = edit_msr(frame, n[0], bits::low(n[1]), yes_no(n[2]));
-    print_digest(refusal, frame);
+    replay::print_answer(rt, refusal, &[replay::digest_of(frame)])
 }
 
 // ---- Every list.
 
 // Prints the answer to one case. The frames are what the lists of edits go on with from case to case.
-fn answer(list: List, n: [u64; 8], a: &mut [u8; FRAME_SIZE], b: &mut [u8; FRAME_SIZE]) {
+fn answer(
+    rt: &impl Print,
+    list: List,
+    n: [u64; 8],
+    a: &mut [u8; FRAME_SIZE],
+    b: &mut [u8; FRAME_SIZE],
+) -> io::Result<()> {
     match list {
-        List::Unknown => {
-            io::write_all(STDOUT_FILENO, b"no such list\n");
-        }
-        List::SetControl => set_control(n),
-        List::Encodings => encodings(n),
-        List::IoIntercepts => io_intercepts(a, b, n),
-        List::MsrIntercepts => msr_intercepts(a, n),
-        List::GetCpuMode => readings::get_cpu_mode(n),
-        List::GetPtwInfo => readings::get_ptw_info(n),
-        List::Gla2gva => readings::gla2gva(n),
+        List::Unknown => println!(rt; "no such list"),
+        List::SetControl => set_control(rt, n),
+        List::Encodings => encodings(rt, n),
+        List::IoIntercepts => io_intercepts(rt, a, b, n),
+        List::MsrIntercepts => msr_intercepts(rt, a, n),
+        List::GetCpuMode => readings::get_cpu_mode(rt, n),
+        List::GetPtwInfo => readings::get_ptw_info(rt, n),
+        List::Gla2gva => readings::gla2gva(rt, n),
     }
 }
 
 // A comment starts a list, with everything anew.
-fn answer_all(text: &[u8]) {
+fn answer_all(rt: &impl Print, text: &[u8]) -> io::Result<()> {
     let mut list = List::Unknown;
     let mut a = [0u8; FRAME_SIZE];
     let mut b = [0u8; FRAME_SIZE];
@@ -173,18 +166,18 @@ fn answer_all(text: &[u8]) {
             list = list_of(rest);
             a = [0; FRAME_SIZE];
             b = [0; FRAME_SIZE];
-            at += replay::print_comment(rest);
+            at += replay::print_comment(rt, rest)?;
         } else {
             let case = replay::case_at(text, at);
-            let values = case.numbers;
-            answer(list, values, &mut a, &mut b);
+            answer(rt, list, case.numbers, &mut a, &mut b)?;
             at = case.next;
         }
     }
+    Ok(())
 }
 
-fn main() {
+fn main(rt: HostRuntime) -> io::Result<()> {
     let mut input = replay::buffer();
-    let n = io::read_full(STDIN_FILENO, &mut input);
-    answer_all(&input[..n]);
+    let read = streams::fill(&mut rt.reader(), &mut input)?;
+    answer_all(&rt, &input[..read])
 }

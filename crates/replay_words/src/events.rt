@@ -1,11 +1,16 @@
 // Events by their vector: the type, whether it carries an error code, whether it is soft, and the word.
-pub fn vectors(n: [u64; 8]) {
+use std::io;
+
+pub fn vectors(rt: &impl Print, n: [u64; 8]) -> io::Result<()> {
     let vector = (n[0] % 0x100) as u8;
     let int_type = definitions::from_vector(vector);
-    replay::print_numbers(&[
-        definitions::type_number(int_type) as u64,
-        definitions::vector_has_error_code(vector) as u64,
-        definitions::is_soft(int_type) as u64,
-        definitions::event_word(vector, n[1] == 1) as u64,
-    ]);
+    replay::print_numbers(
+        rt,
+        &[
+            u64::from(definitions::type_number(int_type)),
+            u64::from(definitions::vector_has_error_code(vector)),
+            u64::from(definitions::is_soft(int_type)),
+            u64::from(definitions::event_word(vector, n[1] == 1)),
+        ],
+    )
 }

@@ -1,33 +1,43 @@
 // The words of an exit.
-pub fn io_exit_info(n: [u64; 8]) {
+use std::io;
+
+pub fn io_exit_info(rt: &impl Print, n: [u64; 8]) -> io::Result<()> {
     let info = vmcs::exit_info::io_exit_info(n[0]);
-    replay::print_numbers(&[
-        info.access_size as u64,
-        info.is_in as u64,
-        info.is_string as u64,
-        info.is_repeat as u64,
-        info.port as u64,
-    ]);
+    replay::print_numbers(
+        rt,
+        &[
+            u64::from(info.access_size),
+            u64::from(info.is_in),
+            u64::from(info.is_string),
+            u64::from(info.is_repeat),
+            u64::from(info.port),
+        ],
+    )
 }
 
-pub fn cr_access_info(n: [u64; 8]) {
+pub fn cr_access_info(rt: &impl Print, n: [u64; 8]) -> io::Result<()> {
     let info = vmcs::exit_info::cr_access_info(n[0]);
-    replay::print_numbers(&[
-        info.cr_number as u64,
-        info.access_type as u64,
-        info.lmsw_op_type as u64,
-        info.gpr as u64,
-        info.lmsw_source_data as u64,
-    ]);
+    replay::print_numbers(
+        rt,
+        &[
+            u64::from(info.cr_number),
+            u64::from(info.access_type),
+            u64::from(info.lmsw_op_type),
+            u64::from(info.gpr),
+            u64::from(info.lmsw_source_data),
+        ],
+    )
 }
 
-pub fn interrupt_exit_info(n: [u64; 8]) {
+pub fn interrupt_exit_info(rt: &impl Print, n: [u64; 8]) -> io::Result<()> {
     let info = vmcs::exit_info::interrupt_exit_info(bits::low(n[0]));
-    let int_type = info.int_type;
-    replay::print_numbers(&[
-        info.vector as u64,
-        definitions::type_number(int_type) as u64,
-        info.err_code as u64,
-        info.valid as u64,
-    ]);
+    replay::print_numbers(
+        rt,
+        &[
+            u64::from(info.vector),
+            u64::from(definitions::type_number(info.int_type)),
+            u64::from(info.err_code),
+            u64::from(info.valid),
+        ],
+    )
 }

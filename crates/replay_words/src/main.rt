@@ -1,15 +1,17 @@
 // Replays lists of the oracle that the exported functions do not answer: words and decoders that they are made of, and registers and fields by value. Reads
 // the lists from standard input, and prints the core's answers.
+#![tactic(auto)]
+
 mod controls;
 mod events;
 mod exits;
 
-use libc::{STDIN_FILENO, STDOUT_FILENO};
 use regs::{GeneralRegisters, RegAnswer};
+use std::io;
 use vmcs::{FieldAnswer, Vmcs};
 
 // The lists, by the oracle's names.
-#[derive(Drop)]
+#[derive(Clone, Copy)]
 enum List {
     Unknown,
     SetCr,
@@ -57,50 +59,44 @@ fn list_of(text: &[u8]) -> List {
 
 // ---- Registers and fields by value: each case goes on with what the last left.
 
-fn print_register(g: GeneralRegisters, index: u64) {
+fn print_register(rt: &impl Print, g: GeneralRegisters, index: u64) -> io::Result<()> {
     match regs::reg_of_index(g, index) {
-        RegAnswer::Value(value) => replay::print_numbers(&[value]),
-        RegAnswer::Refused(refusal) => replay::print_refused(refusal),
+        RegAnswer::Value(value) => replay::print_numbers(rt, &[value]),
+        RegAnswer::Refused(refusal) => replay::print_refused(rt, refusal),
     }
 }
 
-// Prints the answer to one case, and answers the registers after it.
-fn answer_registers(g: GeneralRegisters, n: [u64; 8]) -> GeneralRegisters {
+fn answer_registers(rt: &impl Print, g: &mut GeneralRegisters, n: [u64; 8]) -> io::Result<()> {
     if n[0] == 0 {
-        print_register(g, n[1]);
-        return g;
+        return print_register(rt, *g, n[1]);
     }
-    let written = regs::with_reg_of_index(g, n[1], n[2]);
-    let next = written.regs;
+    let written = regs::with_reg_of_index(*g, n[1], n[2]);
+    *g = written.regs;
     if written.refusal == 0 {
-        print_register(next, n[1]);
+        print_register(rt, *g, n[1])
     } else {
-        replay::print_refused(written.refusal);
+        replay::print_refused(rt, written.refusal)
     }
-    next
 }
 
-fn print_field(fields: Vmcs, encoding: u64) {
+fn print_field(rt: &impl Print, fields: Vmcs, encoding: u64) -> io::Result<()> {
     match vmcs::vmcs_read(fields, encoding) {
-        FieldAnswer::Value(value) => replay::print_numbers(&[value]),
-        FieldAnswer::Refused(refusal) => replay::print_refused(refusal),
+        FieldAnswer::Value(value) => replay::print_numbers(rt, &[value]),
+        FieldAnswer::Refused(refusal) => replay::print_refused(rt, refusal),
     }
 }
 
-// Prints the answer to one case, and answers the fields after it.
-fn answer_fields(fields: Vmcs, n: [u64; 8]) -> Vmcs {
+fn answer_fields(rt: &impl Print, fields: &mut Vmcs, n: [u64; 8]) -> io::Result<()> {
     if n[0] == 0 {
-        print_field(fields, n[1]);
-        return fields;
+        return print_field(rt, *fields, n[1]);
     }
-    let written = vmcs::vmcs_write(fields, n[1], n[2]);
-    let next = written.vmcs;
+    let written = vmcs::vmcs_write(*fields, n[1], n[2]);
+    *fields = written.vmcs;
     if written.refusal == 0 {
-        print_field(next, n[1]);
+        print_field(rt, *fields, n[1])
     } else {
-        replay::print_refused(written.refusal);
+        replay::print_refused(rt, written.refusal)
     }
-    next
 }
 
 fn no_fields() -> Vmcs {
@@ -121,61 +117,53 @@ struct State {
     fields: Vmcs,
 }
 
-fn new() -> State {
-    State {
-        registers: regs::of_array([0; 16]),
-        fields: no_fields(),
+impl State {
+    fn new() -> Self {
+        State {
+            registers: regs::of_array([0; 16]),
+            fields: no_fields(),
+        }
     }
 }
 
-// Prints the answer to one case, and answers the state after it.
-fn answer(list: List, s: State, n: [u64; 8]) -> State {
-    let mut t = s;
+// Prints the answer to one case.
+fn answer(rt: &impl Print, list: List, state: &mut State, n: [u64; 8]) -> io::Result<()> {
     match list {
-        List::Unknown => {
-            io::write_all(STDOUT_FILENO, b"no such list\n");
-        }
-        List::SetCr => controls::set_cr(n),
-        List::UpdateEfer => controls::update_efer(n),
-        List::EptPointer => controls::ept_pointer(n),
-        List::Vectors => events::vectors(n),
-        List::IoExitInfo => exits::io_exit_info(n),
-        List::CrAccessInfo => exits::cr_access_info(n),
-        List::InterruptExitInfo => exits::interrupt_exit_info(n),
-        List::Registers => {
-            let registers = answer_registers(s.registers, n);
-            t.registers = registers;
-        }
-        List::Fields => {
-            let fields = answer_fields(s.fields, n);
-            t.fields = fields;
-        }
+        List::Unknown => println!(rt; "no such list"),
+        List::SetCr => controls::set_cr(rt, n),
+        List::UpdateEfer => controls::update_efer(rt, n),
+        List::EptPointer => controls::ept_pointer(rt, n),
+        List::Vectors => events::vectors(rt, n),
+        List::IoExitInfo => exits::io_exit_info(rt, n),
+        List::CrAccessInfo => exits::cr_access_info(rt, n),
+        List::InterruptExitInfo => exits::interrupt_exit_info(rt, n),
+        List::Registers => answer_registers(rt, &mut state.registers, n),
+        List::Fields => answer_fields(rt, &mut state.fields, n),
     }
-    t
 }
 
 // A comment starts a list, with the state anew.
-fn answer_all(text: &[u8]) {
+fn answer_all(rt: &impl Print, text: &[u8]) -> io::Result<()> {
     let mut list = List::Unknown;
-    let mut state = new();
+    let mut state = State::new();
     let mut at = 0;
     while at < text.len() {
         if text[at] == b'#' {
             let rest = &text[at..];
             list = list_of(rest);
-            state = new();
-            at += replay::print_comment(rest);
+            state = State::new();
+            at += replay::print_comment(rt, rest)?;
         } else {
             let case = replay::case_at(text, at);
-            let numbers = case.numbers;
-            state = answer(list, state, numbers);
+            answer(rt, list, &mut state, case.numbers)?;
             at = case.next;
         }
     }
+    Ok(())
 }
 
-fn main() {
+fn main(rt: HostRuntime) -> io::Result<()> {
     let mut input = replay::buffer();
-    let n = io::read_full(STDIN_FILENO, &mut input);
-    answer_all(&input[..n]);
+    let read = streams::fill(&mut rt.reader(), &mut input)?;
+    answer_all(&rt, &input[..read])
 }

@@ -1,3 +1,4 @@
+pub mod PrintedLaws
 pub mod LineLaws
 pub mod SheetLaws
 pub mod FormLaws

@@ -1,4 +1,6 @@
 // The program casesheet of document 01, as a function from the text that it reads to the text that it prints; and that from a file to standard output.
+#![tactic(auto)]
+
 pub mod file;
 mod line;
 

@@ -50,6 +50,7 @@ fn word_at(line: &[u8], at: usize) -> Parsed
 }
 
 // The five words after a name of n bytes.
+#[tactic(auto, unfolding(crate::specs::Line::words_from))]
 fn words_from(line: &[u8], n: usize) -> Case
     requires { n + 45 ≤ length line.now }
     ensures { result ≡ words_from line.now n }
@@ -80,6 +81,7 @@ fn words_from(line: &[u8], n: usize) -> Case
 }
 
 // The words take the last 45 bytes, nine each, and the name is what stands before them.
+#[tactic(auto, unfolding(crate::specs::Line::case_of))]
 fn read(line: &[u8]) -> Case
     ensures { result ≡ case_of line.now }
 {
@@ -96,6 +98,7 @@ fn read(line: &[u8]) -> Case
     Case::Bad
 }
 
+#[tactic(auto, unfolding(crate::specs::Line::answer_text))]
 fn word_text(w: u32) -> [u8; 10]
     ensures { result ≡ answer_text (Word w) }
 {
@@ -103,6 +106,7 @@ fn word_text(w: u32) -> [u8; 10]
     [b'\t', d[0], d[1], d[2], d[3], d[4], d[5], d[6], d[7], b'\n']
 }
 
+#[tactic(auto, unfolding(crate::specs::Line::answer_text))]
 fn refused_text(n: u32) -> [u8; 11]
     ensures { result ≡ answer_text (Refused n) }
 {

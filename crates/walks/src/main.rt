@@ -1,41 +1,60 @@
 // Prints walks of the guest's page tables (document 02, N6) as the exported function answers them: cases with all that they depend on; and of each kind of entry the smallest one that breaks each rule,
 // then many walks to a line, a mark for each. Numbers are hexadecimal, but levels, rules, refusals and bits by their places decimal. tools/walks.py says what must be printed, and what the marks are.
+#![tactic(auto)]
+
 mod cases;
 mod rules;
 mod sweeps;
 
-use libc::STDOUT_FILENO;
 use record::{Record, words};
+use std::fmt::{Display, Formatter};
+use std::{fmt, io};
 
 // What the answer's words hold before a walk.
 const BEFORE: u64 = 0xEEEE;
 
 // The refusal, and the answer's words.
-#[derive(Drop)]
+#[derive(Clone, Copy)]
 struct Answer {
-    refusal: u64,
+    refusal: u32,
     what: u64,
     first: u64,
     second: u64,
 }
 
-fn say(text: &[u8]) {
-    io::write_all(STDOUT_FILENO, text);
+impl Answer {
+    // A refused walk writes none of the words.
+    fn is_written(self) -> bool {
+        self.what != BEFORE || self.first != BEFORE || self.second != BEFORE
+    }
 }
 
-fn say_hex(number: u64) {
-    io::print_hex(STDOUT_FILENO, number, 1);
-}
-
-fn say_decimal(number: u64) {
-    io::print_decimal(STDOUT_FILENO, number);
+impl Display for Answer {
+    fn fmt<W: fmt::Write>(&self, f: &mut Formatter<W>) -> fmt::Result {
+        let Answer {
+            refusal,
+            what,
+            first,
+            second,
+        } = *self;
+        if refusal != 0 {
+            let written = if self.is_written() { ", written" } else { "" };
+            write!(f, "refused {refusal}{written}")
+        } else if what == 0 && second == 0 {
+            write!(f, "address {first:x}")
+        } else if what == 1 {
+            write!(f, "level {first} rule {second}")
+        } else {
+            f.write_str("neither")
+        }
+    }
 }
 
 fn walk(bytes: &[u8], memory: &[u8], address: u64, access: u8) -> Answer {
     let mut answer = [BEFORE; 3];
     let refusal = x86_vcpu::readings::vcpu_page_walk(bytes, memory, address, access, &mut answer);
     Answer {
-        refusal: refusal as u64,
+        refusal,
         what: answer[0],
         first: answer[1],
         second: answer[2],
@@ -48,31 +67,6 @@ fn walk_part(bytes: &[u8], memory: &[u8], length: usize, address: u64, access: u
         return walk(bytes, &memory[..length], address, access);
     }
     walk(bytes, memory, address, access)
-}
-
-// A refused walk writes none of the words.
-fn say_refused(a: Answer) {
-    say(b"refused ");
-    say_decimal(a.refusal);
-    if (a.what != BEFORE) | (a.first != BEFORE) | (a.second != BEFORE) {
-        say(b", written");
-    }
-}
-
-fn say_answer(a: Answer) {
-    if a.refusal != 0 {
-        say_refused(a);
-    } else if (a.what == 0) & (a.second == 0) {
-        say(b"address ");
-        say_hex(a.first);
-    } else if a.what == 1 {
-        say(b"level ");
-        say_decimal(a.first);
-        say(b" rule ");
-        say_decimal(a.second);
-    } else {
-        say(b"neither");
-    }
 }
 
 // ---- The access, and the record of a guest that makes it: what a walk depends on but for memory and address
@@ -89,7 +83,7 @@ const CR3: u64 = 0x6802;
 const CR4: u64 = 0x6804;
 
 // The levels of the guest's page tables, the kind of access, and the flags that are set.
-#[derive(Drop)]
+#[derive(Clone, Copy)]
 struct Access {
     levels: u8,
     kind: u8,
@@ -118,9 +112,9 @@ impl Access {
 
     fn of(levels: u8, kind: u8, flags: u64) -> Self {
         Access {
-            levels: levels,
-            kind: kind,
-            flags: flags,
+            levels,
+            kind,
+            flags,
         }
     }
 
@@ -136,19 +130,32 @@ impl Access {
         bytes
     }
 
-    // Who accesses, how, and the flags.
-    fn say(self) {
-        if self.flags & Self::USER != 0 {
-            say(b"user ");
+    // What is printed for a flag: its name, where it is set.
+    fn named(self, flag: u64, name: &str) -> &str {
+        if self.flags & flag != 0 { name } else { "" }
+    }
+}
+
+// Who accesses, how, and the flags.
+impl Display for Access {
+    fn fmt<W: fmt::Write>(&self, f: &mut Formatter<W>) -> fmt::Result {
+        let who = if self.flags & Self::USER != 0 {
+            "user"
         } else {
-            say(b"supervisor ");
+            "supervisor"
+        };
+        write!(f, "{who} ")?;
+        match self.kind {
+            Self::READ => f.write_str("read")?,
+            Self::WRITE => f.write_str("write")?,
+            Self::FETCH => f.write_str("fetch")?,
+            other => write!(f, "kind {other}")?,
         }
-        say_kind(self.kind);
-        say_flag(self.flags & Self::WP, b", WP");
-        say_flag(self.flags & Self::PSE, b", PSE");
-        say_flag(self.flags & Self::SMEP, b", SMEP");
-        say_flag(self.flags & Self::SMAP, b", SMAP");
-        say_flag(self.flags & Self::NXE, b", NXE");
+        f.write_str(self.named(Self::WP, ", WP"))?;
+        f.write_str(self.named(Self::PSE, ", PSE"))?;
+        f.write_str(self.named(Self::SMEP, ", SMEP"))?;
+        f.write_str(self.named(Self::SMAP, ", SMAP"))?;
+        f.write_str(self.named(Self::NXE, ", NXE"))
     }
 }
 
@@ -168,25 +175,6 @@ fn write_field(bytes: &mut [u8; Record::LENGTH], encoding: u64, value: u64) {
 
 fn put_top(bytes: &mut [u8; Record::LENGTH], cr3: u64) {
     write_field(bytes, CR3, cr3);
-}
-
-fn say_kind(kind: u8) {
-    if kind == Access::READ {
-        say(b"read");
-    } else if kind == Access::WRITE {
-        say(b"write");
-    } else if kind == Access::FETCH {
-        say(b"fetch");
-    } else {
-        say(b"kind ");
-        say_decimal(kind as u64);
-    }
-}
-
-fn say_flag(flag: u64, name: &[u8]) {
-    if flag != 0 {
-        say(name);
-    }
 }
 
 // ---- Memory
@@ -331,18 +319,18 @@ fn level_mark(a: Answer, home: u64, bit: u64) -> u8 {
 }
 
 // Eight marks stand together.
-fn print_mark(mark: u8, number: u64) {
+fn print_mark(rt: &impl Print, mark: u8, number: u64) -> io::Result<()> {
     if number % 8 == 0 {
-        say(b" ");
+        rt.write_all(b" ")?;
     }
-    say(&[mark]);
+    rt.write_all(&[mark])
 }
 
 // ---- The kinds of entries
 
 // An entry at a level; PS, where that makes it a page; with 2 levels CR4.PSE; the lowest bit that is reserved without NXE, by its place; and one that is reserved with NXE too, other than RW and US,
 // or is ignored.
-#[derive(Drop)]
+#[derive(Clone, Copy)]
 struct Kind {
     levels: u8,
     level: u8,
@@ -385,52 +373,54 @@ impl Kind {
     fn open(self) -> u64 {
         self.bits | open_of(self.levels, self.level)
     }
+}
 
-    fn say(self) {
-        say_decimal(self.levels as u64);
-        say(b" levels, level ");
-        say_decimal(self.level as u64);
-        if self.is_page() {
-            say(b", page, ");
-        } else {
-            say(b", table, ");
-        }
+impl Display for Kind {
+    fn fmt<W: fmt::Write>(&self, f: &mut Formatter<W>) -> fmt::Result {
+        let Kind { levels, level, .. } = *self;
+        let leads_to = if self.is_page() { "page" } else { "table" };
+        write!(f, "{levels} levels, level {level}, {leads_to}, ")
     }
 }
 
-fn kind_of(levels: u8, level: u8, bits: u64, pse: u64, reserved: u64, spare: u64) {
-    let k = Kind {
-        levels: levels,
-        level: level,
-        bits: bits,
-        pse: pse,
-        reserved: reserved,
-        spare: spare,
-    };
-    rules::rules(k);
-    sweeps::sweeps(k);
+fn print_kind(rt: &impl Print, kind: Kind) -> io::Result<()> {
+    rules::rules(rt, kind)?;
+    sweeps::sweeps(rt, kind)
 }
 
-fn each_kind() {
-    kind_of(4, 4, 0, 0, 7, 7);
-    kind_of(4, 3, 0x80, 0, 13, 13);
-    kind_of(4, 3, 0, 0, 63, 52);
-    kind_of(4, 2, 0x80, 0, 13, 13);
-    kind_of(4, 2, 0, 0, 63, 52);
-    kind_of(4, 1, 0, 0, 63, 52);
-    kind_of(3, 3, 0, 0, 1, 5);
-    kind_of(3, 2, 0x80, 0, 13, 13);
-    kind_of(3, 2, 0, 0, 52, 52);
-    kind_of(3, 1, 0, 0, 52, 52);
-    kind_of(2, 2, 0x80, Access::PSE, 21, 21);
-    kind_of(2, 2, 0, Access::PSE, NO_BIT, 9);
-    kind_of(2, 1, 0, Access::PSE, NO_BIT, 9);
+fn each_kind(rt: &impl Print) -> io::Result<()> {
+    for (levels, level, bits, pse, reserved, spare) in [
+        (4, 4, 0, 0, 7, 7),
+        (4, 3, 0x80, 0, 13, 13),
+        (4, 3, 0, 0, 63, 52),
+        (4, 2, 0x80, 0, 13, 13),
+        (4, 2, 0, 0, 63, 52),
+        (4, 1, 0, 0, 63, 52),
+        (3, 3, 0, 0, 1, 5),
+        (3, 2, 0x80, 0, 13, 13),
+        (3, 2, 0, 0, 52, 52),
+        (3, 1, 0, 0, 52, 52),
+        (2, 2, 0x80, Access::PSE, 21, 21),
+        (2, 2, 0, Access::PSE, NO_BIT, 9),
+        (2, 1, 0, Access::PSE, NO_BIT, 9),
+    ] {
+        let kind = Kind {
+            levels,
+            level,
+            bits,
+            pse,
+            reserved,
+            spare,
+        };
+        print_kind(rt, kind)?;
+    }
+    Ok(())
 }
 
-fn main() {
-    cases::worked();
-    cases::edges();
-    cases::numbers();
-    cases::records();
-    each_kind();
+fn main(rt: HostRuntime) -> io::Result<()> {
+    cases::worked(&rt)?;
+    cases::edges(&rt)?;
+    cases::numbers(&rt)?;
+    cases::records(&rt)?;
+    each_kind(&rt)
 }

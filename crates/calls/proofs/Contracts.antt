@@ -41,7 +41,7 @@ pub contracts : (b : List ℕ) → Contracts b
 contracts b =
     record {
       new = λ bytes x y z r bytes' x' y' z' c. record { made = λ l. c ∙ new_made bytes x y z l; refused = λ n. c ∙ new_refused bytes x y z n };
-      set_up_lem = λ block x y z r after x' y' z' c.
+      set_up = λ block x y z r after x' y' z' c.
           let number = ap (λ (o : FramesCall). o.refusal) c.answer in
           record {
             step = ap framed (sym c.answer);

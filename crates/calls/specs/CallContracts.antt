@@ -48,7 +48,7 @@ pub record Contracts (b : List ℕ) : Type 0 where
   -- vcpu_new
   pub new : (bytes x y z : List ℕ) (r : ℕ) (bytes' x' y' z' : List ℕ) → frames_call r bytes' x' y' z' ≡ new_call bytes x y z → Creates bytes x y z r bytes' x' y' z'
   -- vcpu_setup
-  pub set_up_lem : (block x y z : List ℕ) (r : ℕ) (after x' y' z' : List ℕ) → SetupCalled b block x y z r after x' y' z' → SetsUp b block x y z r after x' y' z'
+  pub set_up : (block x y z : List ℕ) (r : ℕ) (after x' y' z' : List ℕ) → SetupCalled b block x y z r after x' y' z' → SetsUp b block x y z r after x' y' z'
   -- vcpu_queue_event
   pub queue : (vector coded code r : ℕ) (after : List ℕ) → Called (queue_step vector coded code) b r after → Does b (queue_event vector coded code) r after
   -- vcpu_inject_interrupt

@@ -30,7 +30,7 @@ msr_trial accesses msr v frame shown = trial same_length (msr_on accesses msr v)
 pub six_trials : SixTrials
 six_trials =
     record {
-      exit_report_lem = λ block bytes shown words. trial same_length (report_on block) bytes shown words _ (same_length_lem bytes shown) (report_refusing block);
+      exit_report = λ block bytes shown words. trial same_length (report_on block) bytes shown words _ (same_length_lem bytes shown) (report_refusing block);
       entry = λ stack bytes shown results. trial same_length (entry_on stack) bytes shown results _ (same_length_lem bytes shown) (entry_refusing stack);
       io_intercept_of_range = λ base count v frames shown. trial same_lengths (ports_on base count v) frames shown tt _ (same_lengths_lem frames shown) (ports_refusing base count v);
       read_intercept = msr_trial reads;

@@ -25,7 +25,7 @@ lengths_of io = length io.a ∷ length io.b ∷ []
 
 -- the six, for all arguments
 pub record SixTrials : Type 0 where
-  pub exit_report_lem : (block bytes shown words : List ℕ) → Trial length_of (report_on block) bytes shown words (try_report block bytes shown words)
+  pub exit_report : (block bytes shown words : List ℕ) → Trial length_of (report_on block) bytes shown words (try_report block bytes shown words)
   pub entry : (stack : ℕ) (bytes shown : List ℕ) (results : ℕ × ℕ) → Trial length_of (entry_on stack) bytes shown results (try_entry stack bytes shown results)
   pub io_intercept_of_range : (base count intercept : ℕ) (frames shown : IOBitmap)
       → Trial lengths_of (ports_on base count intercept) frames shown tt (try_ports base count intercept frames shown tt)

@@ -2,4 +2,4 @@ use Rattle.calls.proofs.Contracts.{contracts}
 use Rattle.exported_calls.proofs.set_up.Goals as goal
 
 pub returns : goal.returns
-returns c = (contracts _).set_up_lem _ _ _ _ _ _ _ _ _ c.vcpu_setup.ensures
+returns c = (contracts _).set_up _ _ _ _ _ _ _ _ _ c.vcpu_setup.ensures

@@ -25,7 +25,7 @@ extern "C" {
 #endif
 
 /* The kit that built the archive with which this header is handed out, as `rt version` prints it. */
-#define VCPU_KIT "rattle-kit-5b logic 064da1ca440f63e7"
+#define VCPU_KIT "rattle-kit-13f logic dac8208d650f15bf"
 
 /* ---- Numbers of refusals ---- */
 
@@ -631,7 +631,7 @@ uint32_t vcpu_set_control(uint32_t allowed0, uint32_t allowed1, uint32_t old, ui
 /* ---- Intercepts ----
  * The frames are the ones whose physical addresses the VMCS holds. An edit touches the named bits alone, in any phase of a session.
  *
- * What scripts of edits leave (theorem two-hands of crates/intercepts; docs/TWO-HANDS.md), the calls on one frame being made one at a time:
+ * What scripts of edits leave (theorem two_hands of crates/intercepts; docs/TWO-HANDS.md), the calls on one frame being made one at a time:
  * - Edits that have no port, no read and no write of an MSR in common leave the same bytes in either order. So do two scripts, if no edit of one has any of these in
  *   common with an edit of the other: one after the other or interleaved, each script's own calls in order. An edit gets the same answer at every place, and a refused
  *   one counts for nothing.

@@ -122,7 +122,7 @@ MUTATIONS = [Mutation(*texts) for texts in [
     # The session.
     ("VMX_PREEMPTION_TIMER_SET_VALUE: u32 = 1_000_000;", "VMX_PREEMPTION_TIMER_SET_VALUE: u32 = 100_000;"),
     # The index of a register.
-    ("indexRefusal index ⌝ }\n{\n    if 15 < index {", "indexRefusal index ⌝ }\n{\n    if 16 < index {"),
+    ("index_refusal index }\n{\n    if 15 < index {", "index_refusal index }\n{\n    if 16 < index {"),
     # An entry on a record.
     ("    if e.coded {\n        return e.code;\n    }\n", ""),
     ("record::natural_at(b, VmcsGuestNW::CR0))", "record::natural_at(b, vmcs::names::VmcsControlNW::CR0_READ_SHADOW))"),
@@ -143,8 +143,8 @@ MUTATIONS = [Mutation(*texts) for texts in [
     ("        Injection::Held => {}\n        Injection::Written => record_edits::pop_front(b),",
      "        Injection::Held => record_edits::pop_front(b),\n        Injection::Written => record_edits::pop_front(b),"),
     # Edits of a record.
-    ("withProgress (sessionOf (now (b .entry))) p) ⌝ }\n{\n    words::put1(b, Record::PHASE, p.phase);\n    words::put_flag(b, Record::LAUNCHED, p.launched);\n    words::put4(b, Record::ENTRIES, p.entries);\n    words::put4(b, Record::HELD, p.held);",
-     "withProgress (sessionOf (now (b .entry))) p) ⌝ }\n{\n    words::put1(b, Record::PHASE, p.phase);\n    words::put_flag(b, Record::LAUNCHED, p.launched);\n    words::put4(b, Record::ENTRIES, p.entries);\n    words::put4(b, Record::HELD, p.entries);"),
+    ("with_progress (session_of b.old) p) }\n{\n    words::put1(b, Record::PHASE, p.phase);\n    words::put_flag(b, Record::LAUNCHED, p.launched);\n    words::put4(b, Record::ENTRIES, p.entries);\n    words::put4(b, Record::HELD, p.held);",
+     "with_progress (session_of b.old) p) }\n{\n    words::put1(b, Record::PHASE, p.phase);\n    words::put_flag(b, Record::LAUNCHED, p.launched);\n    words::put4(b, Record::ENTRIES, p.entries);\n    words::put4(b, Record::HELD, p.entries);"),
     ("words::put8(b, Record::REGS + index * 8, value);", "words::put8(b, Record::REGS + (15 - index) * 8, value);"),
     ("put_w64(b, place - 17, value);", "put_w64(b, 57 - place, value);"),
     ("words::put8(b, Record::XCR0, value);", "words::put8(b, Record::SUPPORTED, value);"),
@@ -213,14 +213,14 @@ MUTATIONS = [Mutation(*texts) for texts in [
     ("(held <= entries)", "(held < entries)"),
     ("& (waiting <= 64)", "& (waiting < 64)"),
     ("words::get8(b, Record::REGS + index * 8)", "words::get8(b, Record::REGS + (15 - index) * 8)"),
-    ("ProgressFits p ⌝ }\n{\n    words::put1(b, Record::PHASE, p.phase);\n    words::put_flag(b, Record::LAUNCHED, p.launched);\n    words::put4(b, Record::ENTRIES, p.entries);\n    words::put4(b, Record::HELD, p.held);",
-     "ProgressFits p ⌝ }\n{\n    words::put1(b, Record::PHASE, p.phase);\n    words::put_flag(b, Record::LAUNCHED, p.launched);\n    words::put4(b, Record::ENTRIES, p.entries);\n    words::put4(b, Record::HELD, p.entries);"),
+    ("ProgressFits p }\n{\n    words::put1(b, Record::PHASE, p.phase);\n    words::put_flag(b, Record::LAUNCHED, p.launched);\n    words::put4(b, Record::ENTRIES, p.entries);\n    words::put4(b, Record::HELD, p.held);",
+     "ProgressFits p }\n{\n    words::put1(b, Record::PHASE, p.phase);\n    words::put_flag(b, Record::LAUNCHED, p.launched);\n    words::put4(b, Record::ENTRIES, p.entries);\n    words::put4(b, Record::HELD, p.entries);"),
     ("value: words::get8(b, Record::XCR0),", "value: words::get8(b, Record::SUPPORTED),"),
     ("supported: words::get8(b, Record::SUPPORTED),", "supported: words::get8(b, Record::XCR0),"),
     ("    words::put8(b, Record::XCR0, x.value);\n", ""),
     ("    words::put8(b, Record::SUPPORTED, x.supported);\n", ""),
     # Setup.
-    ("bitsRefusal pair set clear ⌝ }\n{\n    if set & pair.allowed1 != set {", "bitsRefusal pair set clear ⌝ }\n{\n    if set & pair.allowed1 == 0 {"),
+    ("bits_refusal pair set clear }\n{\n    if set & pair.allowed1 != set {", "bits_refusal pair set clear }\n{\n    if set & pair.allowed1 == 0 {"),
     ("        return Refusal::CLEAR;", "        return Refusal::SET;"),
     ("or_else(primary, or_else(secondary,", "or_else(secondary, or_else(primary,"),
     ("        & fixed_consistent(c.cr4)\n", "\n"),
@@ -400,7 +400,7 @@ MUTATIONS = [Mutation(*texts) for texts in [
     ("const MEM_TYPE_WB: u64 = 6;", "const MEM_TYPE_WB: u64 = 0;"),
     ("const ENABLE_ACCESSED_DIRTY: u64 = 1 << 6;", "const ENABLE_ACCESSED_DIRTY: u64 = 1 << 5;"),
     # The trap sheet: its refusals, and what it writes beside its lines.
-    ("(now (length .entry)) ⌝ }\n{\n    if a.len() != FRAME_SIZE {", "(now (length .entry)) ⌝ }\n{\n    if output.len() < 3 * LINE {\n        return Refusal::ROOM;\n    }\n    if a.len() != FRAME_SIZE {"),
+    ("length.old }\n{\n    if a.len() != FRAME_SIZE {", "length.old }\n{\n    if output.len() < 3 * LINE {\n        return Refusal::ROOM;\n    }\n    if a.len() != FRAME_SIZE {"),
     ("    if msr.len() != FRAME_SIZE {\n        return Refusal::BYTES;\n    }\n    let size", "    if msr.len() < FRAME_SIZE {\n        return Refusal::BYTES;\n    }\n    let size"),
     ("    if output.len() < size {", "    if output.len() + 1 < size {"),
     ("    if output.len() < size {", "    if output.len() != size {"),

@@ -1,4 +1,4 @@
-//! Links the archive that `X86_VCPU_ARCHIVE` names, or the one that `rt staticlib x86_vcpu` leaves in target/.
+//! Links the archive that `X86_VCPU_ARCHIVE` names, or the one that tools/archive leaves in target/.
 
 use std::path::PathBuf;
 

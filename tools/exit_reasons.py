@@ -10,6 +10,8 @@ where a file differs from what would be written.
 import re
 import sys
 
+from generated import write_or_check
+
 ROOT = "crates/definitions/"
 source = open("docs/src/src/vmx/definitions.rs").read()
 body = re.search(r"pub enum VmxExitReason \{(.*?)\n\}", source, re.S).group(1)
@@ -19,9 +21,10 @@ assert reasons == sorted(reasons, key=lambda r: r[1])
 out = {}
 text = """// The basic exit reasons (SDM 3D, appendix C) by their names in definitions.rs.
 // Ported from the enum VmxExitReason of x86_vcpu src/vmx/definitions.rs (Copyright 2025 The Axvisor Team, Apache-2.0). Changed: the reasons are numbers.
-ghost use mathlib.Core.Path.{_≡_};
-ghost use Rattle·definitions·specs.specs.ExitReasons.{exitReasons};
+ghost use Rattle.std.specs.Prelude.{◌≡◌};
+ghost use Rattle.definitions.specs.ExitReasons.{exit_reasons};
 
+#[derive(Drop)]
 pub struct VmxExitReason {}
 
 impl VmxExitReason {
@@ -32,7 +35,7 @@ text += "".join("    VmxExitReason::%s,\n" % name for name, _ in reasons) + "];\
 text += """
 // Every name in the order of its number: the contract ties each to its number.
 pub fn exit_reasons() -> [u32; %d]
-    ensures { λ r. ⌜ r ≡ exitReasons ⌝ }
+    ensures { result ≡ exit_reasons }
 {
     EXIT_REASONS
 }
@@ -40,32 +43,19 @@ pub fn exit_reasons() -> [u32; %d]
 out["src/exit_reason.rt"] = text
 
 text = """-- The basic exit reasons (SDM 3D, appendix C) by their names in definitions.rs. Assumes nothing.
-use Prim.Native.Nat.{ℕ}
+use Rattle.std.specs.Prelude.{ℕ}
 """
 text += "".join("\nabbrev pub %s : ℕ\n%s = %d\n" % (name, name, n) for name, n in reasons)
 out["specs/VmxExitReason.antt"] = text
 
 text = """-- All exit reasons by name, ascending. Assumes nothing.
-use Prim.Native.Nat.{ℕ}
-use mathlib.Core.List.{List, [], _∷_}
-use Rattle·definitions·specs.specs.VmxExitReason as VmxExitReason
+use Rattle.std.specs.Prelude.{ℕ, List, [], ◌∷◌}
+use Rattle.definitions.specs.VmxExitReason as VmxExitReason
 
-unfoldable pub exitReasons : List ℕ
-exitReasons =
+unfoldable pub exit_reasons : List ℕ
+exit_reasons =
     """
 text += "\n    ∷ ".join("VmxExitReason.%s" % name for name, _ in reasons) + "\n    ∷ []\n"
 out["specs/ExitReasons.antt"] = text
 
-wrong = 0
-for name, text in out.items():
-    try:
-        old = open(ROOT + name).read()
-    except FileNotFoundError:
-        old = None
-    if old != text:
-        if "--check" in sys.argv:
-            print("differs: " + ROOT + name)
-            wrong = 1
-        else:
-            open(ROOT + name, "w").write(text)
-sys.exit(wrong)
+sys.exit(write_or_check(out, ROOT))

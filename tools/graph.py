@@ -12,7 +12,6 @@ import re
 import sys
 
 PAGE = "docs/ARCHITECTURE.md"
-KIT = {"io", "os", "libc", "check", "bytes"}
 
 
 def listed():
@@ -20,7 +19,7 @@ def listed():
     layer, crates = "", {}
     for line in open("crates.txt"):
         heading = re.match(r"# ---- (.*)", line)
-        crate = re.match(r"(\w+):(.*)", line)
+        crate = re.match(r"(\w+)(?: staticlib)?:(.*)", line)
         if heading:
             layer = heading.group(1).strip()
         if crate:
@@ -29,16 +28,16 @@ def listed():
 
 
 def named(crate, crates):
-    """The crates that the files of a crate name. A module of the crate may have the name of a crate."""
-    found, modules = set(), set()
-    for path in glob.glob("crates/%s/**/*" % crate, recursive=True):
-        if path.endswith((".rt", ".antt")):
+    """The crates that the files of a crate name, and the kit's libraries. A module of the crate may have the name of a crate."""
+    found, modules, of_kit = set(), set(), {u for _, uses in crates.values() for u in uses}
+    for path in glob.glob("crates/%s/*/**/*" % crate, recursive=True):
+        if path.endswith((".rt", ".antt")) and path.split("/")[2] != "out":
             text = re.sub(r"(//|--) .*", "", open(path).read())
-            found.update(re.findall(r"Rattle·(\w+)", text))
+            found.update(re.findall(r"Rattle\.(\w+)", text))
             if path.endswith(".rt"):
                 found.update(re.findall(r"\b(\w+)::", text))
                 modules.update(re.findall(r"^(?:pub )?mod (\w+);", text, re.M))
-    return {c for c in found if c in crates or c in KIT} - {crate} - modules
+    return {c for c in found if c in crates or c in of_kit} - {crate} - modules
 
 
 def below(crate, crates, seen):

@@ -1,7 +1,7 @@
 #!/usr/bin/env python3
 """Prints the two tables of docs/TRUST.md.
 
-Usage: tools/trust.py [--list] (in the repository's root). The first table counts what must be read: the definitions in specs/ that the contracts of
+Usage: tools/trust.py [--list | --write] (in the repository's root). With --write they go to the end of the page. The first table counts what must be read: the definitions in specs/ that the contracts of
 the exported functions name, and those that they name in turn, and so for each of the statements beside them. The
 second has each library crate's functions and lines. Lines are those with content; blank ones and comments do not count. With --list it prints the definitions of the first table.
 """
@@ -9,26 +9,27 @@ import os
 import re
 import sys
 
-EXPORTS = "crates/x86_vcpu/src"
-LISTS = ["crates/calls/specs/DemandThree.antt", "crates/calls/specs/Contracts.antt"]
+PAGE = "docs/TRUST.md"
+EXPORTS = "crates/x86_vcpu_c/src"
+LISTS = ["crates/calls/specs/DemandThree.antt", "crates/calls/specs/CallContracts.antt"]
 CAPABILITY_WORDS = ["crates/calls/specs/CapabilityWords.antt"]
 TRIALS = ["crates/trials/specs/Reference.antt"]
 WALKS = ["crates/guest_paging/specs/Laws.antt"]
 EDITS = ["crates/intercepts/specs/TwoHands.antt"]
 # What the statements judge and so do not rest on: setup; over lists the other steps of a session too, and what is said nothing of (the words of an answer).
-SETUP = {"setupOf", "ioBitmapSet", "msrBitmapSet"}
+SETUP = {"setup_of", "io_bitmap_set", "msr_bitmap_set"}
 # Of trials: the trial, and the calls, of which it says that a trial tells them, whatever they do.
-TRIED = {"trialOf", "reportCall", "entryCall", "portCall", "msrCall"}
+TRIED = {"trial_of", "report_call", "entry_call", "port_call", "msr_call"}
 # Of page walks: the walk.
-WALKED = {"pageWalkOf"}
+WALKED = {"page_walk_of"}
 # Of edits: the edits, setup, and how an intercept is read.
-EDITED = {"portCall", "msrCall", "setupCall", "portIntercept", "msrIntercept"}
-STEPS = SETUP | {"queueEvent", "injectInterrupt", "entry", "writeField", "setRegister", "apicValue", "exitReport", "answerWords"}
+EDITED = {"port_call", "msr_call", "setup_call", "port_intercept", "msr_intercept"}
+STEPS = SETUP | {"queue_event", "inject_interrupt", "entry", "write_field", "set_register", "apic_value", "exit_report", "answer_words"}
 # Files that tools/vmcs_names.py and tools/exit_reasons.py write.
 GENERATED = re.compile(r"/Names/|/(Named|VmxExitReason|ExitReasons)\.antt$")
 
 START = re.compile(r"\s*(?:abbrev |unfoldable |pub )*(?:record |data )?(?!use\b|mod\b|module\b|infix)([^\s:(){}]+)(?=[^=]*(?::|where))")
-USE = re.compile(r"(?:ghost )?use Rattle·(\w+?)(?:·specs)?\.specs\.([\w.«»-]+?)(?:\.\{(.*)\}| as (\w+))?;?$")
+USE = re.compile(r"(?:ghost )?use Rattle\.(\w+)\.specs\.([\w.«»']+?)(?:\.\{(.*)\}| as (\w+))?;?$")
 
 
 def content(text):
@@ -62,9 +63,9 @@ def imported(text):
     names, aliases = {}, {}
     for line in text.split("\n"):
         found = USE.match(line)
-        if found:
+        if found and os.path.isdir("crates/" + found.group(1)):
             crate, path, listed, alias = found.groups()
-            for name in (listed or "").split(", "):
+            for name in listed.split(", ") if listed else []:
                 names[name] = (crate, path)
             if alias:
                 aliases[alias] = (crate, path)
@@ -87,10 +88,10 @@ class Reading:
         """Takes every name of a text that is defined in specs/."""
         for token in re.findall(r"[^\s(){};,]+", text):
             token = token.replace("«", "").replace("»", "")
-            alias, _, name = token.partition(".")
-            if name and alias in aliases:
-                self.take(aliases[alias], name)
-            for name in (token, "_%s_" % token):
+            first, _, name = token.partition(".")
+            if name and first in aliases:
+                self.take(aliases[first], name)
+            for name in dict.fromkeys((token, first, "◌%s◌" % token)):
                 if own and name in own.names:
                     self.add(own, own.names[name])
                 elif name in imports:
@@ -99,7 +100,7 @@ class Reading:
     def take(self, place, name):
         crate, path = place
         if path.startswith("declared."):
-            self.types.add((crate, path[len("declared."):].removesuffix(".the-variants")))
+            self.types.add((crate, path[len("declared."):].removesuffix(".TheVariants")))
         elif name in self.stops:
             self.stopped.add(name)
         else:
@@ -137,7 +138,7 @@ def exports():
         text = open(os.path.join(EXPORTS, name)).read()
         for contract in re.findall(r'^pub extern "C" fn.*?^\{', text, re.S | re.M):
             functions += 1
-            reading.follow(" ".join(re.findall(r"(?:ensures|requires) \{(.*?)⌝ \}", contract, re.S)), *imported(text))
+            reading.follow(" ".join(re.findall(r"(?:ensures|requires)(?: \w+)? \{(.*?)\}$", contract, re.S | re.M)), *imported(text))
     return reading, functions
 
 
@@ -178,19 +179,24 @@ def main():
                 print(path, reading.modules[path].blocks[number][0].strip())
             print("types:", *sorted("%s::%s" % each for each in reading.types), "\n")
         return
-    print("| to believe | definitions | lines | generated names | types of the code | in all |\n|---|---|---|---|---|---|")
-    print(contracts.row("the contracts of the %d exported functions" % functions))
-    print(lists.row("`whole-list`, and that its steps are the contracts"))
-    print(words.row("`not-looked-at` and `older-board`"))
-    print(trials.row("`six-trials`, beside the calls"))
-    print(walks.row("`session-walks`, beside the reading"))
-    print(edits.row("`two-hands`, beside the edits and setup"))
-    crates = [line.split(":")[0] for line in open("crates.txt") if re.match(r"[a-z0-9_]+:", line)]
+    lines = ["| to believe | definitions | lines | generated names | types of the code | in all |", "|---|---|---|---|---|---|"]
+    lines.append(contracts.row("the contracts of the %d exported functions" % functions))
+    lines.append(lists.row("`whole_list`, and that its steps are the contracts"))
+    lines.append(words.row("`not_looked_at` and `older_board`"))
+    lines.append(trials.row("`six_trials`, beside the calls"))
+    lines.append(walks.row("`session_walks`, beside the reading"))
+    lines.append(edits.row("`two_hands`, beside the edits and setup"))
+    crates = re.findall(r"^([a-z0-9_]+)(?: staticlib)?:", open("crates.txt").read(), re.M)
     rows = [crate_row(name) for name in crates if not os.path.exists(f"crates/{name}/src/main.rt")]
-    print("\n| crate | functions | code | definitions | proofs |\n|---|---|---|---|---|")
-    for row in rows:
-        print("| `%s` | %d | %d | %d | %d |" % row)
-    print("| all | %d | %d | %d | %d |" % tuple(sum(row[i] for row in rows) for i in range(1, 5)))
+    lines += ["", "| crate | functions | code | definitions | proofs |", "|---|---|---|---|---|"]
+    lines += ["| `%s` | %d | %d | %d | %d |" % row for row in rows]
+    lines.append("| all | %d | %d | %d | %d |" % tuple(sum(row[i] for row in rows) for i in range(1, 5)))
+    text = "\n".join(lines) + "\n"
+    if "--write" in sys.argv:
+        page = open(PAGE).read()
+        open(PAGE, "w").write(page[: page.index("| to believe")] + text)
+    else:
+        print(text, end="")
 
 
 if __name__ == "__main__":

@@ -8,12 +8,13 @@ crates/vmcs/src/table.rt (the encodings, and where each width and kind starts), 
 crates/vmcs/specs/Named.antt (kind, name and encoding). With --check nothing is written, and the exit status is 1
 where a file differs from what would be written.
 """
-import os
 import re
 import sys
 
+from generated import packed, write_or_check
+
 ROOT = "crates/vmcs/"
-KINDS = {0: "control", 1: "readOnly", 2: "guest", 3: "host"}
+KINDS = {0: "control", 1: "read_only", 2: "guest", 3: "host"}
 WIDTHS = {0: "Word16", 1: "Word64", 2: "Word32", 3: "Natural"}
 
 source = open("docs/src/src/vmx/vmcs.rs").read()
@@ -39,21 +40,22 @@ text = "// The fields by their names in vmcs.rs. A value is the field's place in
 text += PORTED % "a name is a place and not an encoding, and VmcsControl16 is left out."
 for enum, members in enums.items():
     consts = "\n".join("    pub const %s: usize = %d;\n" % (name, places[x]) for x, name in members)
-    text += "\npub struct %s {}\n\nimpl %s {\n%s}\n" % (enum, enum, consts)
+    text += "\n#[derive(Drop)]\npub struct %s {}\n\nimpl %s {\n%s}\n" % (enum, enum, consts)
 out["src/names.rt"] = text
 
 text = "// The table of fields: the encodings of the enums of vmcs.rs but VmcsControl16, ascending.\n"
 text += PORTED % "the encodings are one table, and VmcsControl16 is left out."
-text += """ghost use mathlib.Core.Path.{_≡_};
-ghost use Rattle·vmcs·specs.specs.Lookup.{startOf, countOf};
-ghost use Rattle·vmcs·specs.specs.Named.{encodings, placesNamed};
+text += """ghost use Rattle.std.specs.Prelude.{◌≡◌};
+ghost use Rattle.vmcs.specs.Lookup.{start_of, count_of};
+ghost use Rattle.vmcs.specs.Named.{encodings, places_named};
+
 """
-text += "".join("use names::%s;\n" % e for e in sorted(enums)).replace("use names", "use crate::names")
-text += "\npub const ENCODINGS: [u64; 154] = [\n" + "".join("    0x%04X,\n" % x for x, _, _ in fields) + "];\n"
+text += "use crate::names::{\n" + packed(sorted(enums)) + "};\n"
+text += "\npub const ENCODINGS: [u64; 154] = [\n" + packed("0x%04X" % x for x, _, _ in fields) + "];\n"
 text += """
 // The table by value.
 pub fn table() -> [u64; 154]
-    ensures { λ r. ⌜ r ≡ encodings ⌝ }
+    ensures { result ≡ encodings }
 {
     ENCODINGS
 }
@@ -73,7 +75,7 @@ for name, numbers, comment in (
     text += """
 // %s
 pub fn %s_of(group: u64) -> u64
-    ensures { λ r. ⌜ r ≡ %sOf group ⌝ }
+    ensures { result ≡ %s_of group }
 {
     match group {
 %s        _ => 0,
@@ -87,7 +89,7 @@ text += "".join("    %s::%s,\n" % (enum, name) for _, enum, name in fields) + "]
 text += """
 // Every name of names.rt in the order of the table: the contract ties each to its encoding.
 pub fn places() -> [usize; 154]
-    ensures { λ r. ⌜ r ≡ placesNamed ⌝ }
+    ensures { result ≡ places_named }
 {
     PLACES
 }
@@ -97,17 +99,16 @@ out["src/table.rt"] = text
 for enum, members in enums.items():
     width = WIDTHS[members[0][0] >> 13 & 3]
     text = "-- The fields of %s: each with its place in the array of its width. Assumes nothing.\n" % enum
-    text += "use Rattle·vmcs·specs.specs.Field.{Field, %s}\n" % width
+    text += "use Rattle.vmcs.specs.Field.{Field, %s}\n" % width
     text += "".join("\nabbrev pub %s : Field\n%s = %s %d\n" % (n, n, width, places[x]) for x, n in members)
     out["specs/Names/%s.antt" % enum] = text
 out["specs/Names.antt"] = "".join("pub mod %s\n" % e for e in enums)
 
 text = """-- Each field's kind, name and encoding (SDM 3D, appendix B), ascending. Assumes nothing.
-use Prim.Native.Nat.{ℕ}
-use mathlib.Core.List.{List, [], _∷_, map}
-use Rattle·vmcs·specs.specs.Field.{Field, placeOf}
+use Rattle.std.specs.Prelude.{ℕ, List, [], ◌∷◌, map}
+use Rattle.vmcs.specs.Field.{Field, place_of}
 """
-text += "".join("use Rattle·vmcs·specs.specs.Names.%s as %s\n" % (e, e) for e in enums)
+text += "".join("use Rattle.vmcs.specs.Names.%s as %s\n" % (e, e) for e in enums)
 text += """
 pub record Named : Type 0 where
   pub kind : ℕ
@@ -123,23 +124,12 @@ text += """
 
 -- the encodings
 unfoldable pub encodings : List ℕ
-encodings = map (λ (n : Named). n .encoding) named
+encodings = map (λ (n : Named). n.encoding) named
 
 -- the places of all names, in the order of the table
-unfoldable pub placesNamed : List ℕ
-placesNamed = map (λ (n : Named). placeOf (n .field)) named
+unfoldable pub places_named : List ℕ
+places_named = map (λ (n : Named). place_of n.field) named
 """
 out["specs/Named.antt"] = text
 
-wrong = 0
-for name, text in out.items():
-    path = ROOT + name
-    old = open(path).read() if os.path.exists(path) else None
-    if old != text:
-        if "--check" in sys.argv:
-            print("differs: " + path)
-            wrong = 1
-        else:
-            os.makedirs(os.path.dirname(path), exist_ok=True)
-            open(path, "w").write(text)
-sys.exit(wrong)
+sys.exit(write_or_check(out, ROOT))

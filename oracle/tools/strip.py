@@ -1,10 +1,11 @@
 #!/usr/bin/env python3
-"""Turns the repository's crates into a Rust workspace: contracts and ghost lines go, plain data becomes Copy, nothing else
-changes. For runs and for mutants, with overflow checks on; it proves nothing.
+"""Turns the repository's crates into a Rust workspace: contracts, ghost lines and hints for proofs go, plain data becomes
+Copy, and what reads and prints does so by tools/kit. For runs and for mutants, with overflow checks on; it proves nothing.
 
 usage: strip.py REPOSITORY OUT
 
-The kit's crates io, os, bytes, libc and check are replaced by those of tools/kit. The crate x86_vcpu is also built as a shared library.
+tools/kit has the crate rattle, which stands for what Rattle's library has and Rust's has otherwise. The crate of the exports is
+built as a shared library.
 """
 
 import re
@@ -13,7 +14,7 @@ import sys
 from pathlib import Path
 
 KIT = Path(__file__).resolve().parent / "kit"
-EXPORTED = "x86_vcpu"
+EXPORTED = "x86_vcpu_c"
 WORKSPACE = """[workspace]
 resolver = "2"
 members = [{members}]
@@ -32,7 +33,7 @@ def dependencies(repository):
         line = line.split("#")[0].strip()
         if line:
             name, _, rest = line.partition(":")
-            crates[name.strip()] = rest.split()
+            crates[name.split()[0]] = rest.split()
     return crates
 
 
@@ -54,9 +55,14 @@ def without_clauses(text):
 def stripped(text):
     """A Rattle file as Rust."""
     text = re.sub(r"^ghost use [^;]*;\n", "", text, flags=re.M)
+    text = re.sub(r"^[ \t]*#!?\[(?:tactic|cycle|derive)\b.*?\]\n", "", text, flags=re.M | re.S)
     text = without_clauses(text)
+    text = re.sub(r"\bstd::(io|fs)\b", r"rattle::\1", text)
+    text = text.replace("fn fmt<W: fmt::Write>(&self, f: &mut Formatter<W>)", "fn fmt(&self, f: &mut Formatter)")
+    text = re.sub(r"^fn main\((\w+): HostRuntime\)(.*)\{$", r"fn main()\2{ let \1 = HostRuntime;", text, flags=re.M)
     derive = r"\1#[derive(Clone, Copy, Debug, PartialEq, Eq)]\n\1\2"
-    return re.sub(r"^(\s*)((?:pub )?(?:struct|enum) )", derive, text, flags=re.M)
+    text = re.sub(r"^(\s*)((?:pub )?(?:struct|enum) )", derive, text, flags=re.M)
+    return "use rattle::{print, println, HostRuntime, Print};\n" + text
 
 
 def strip_file(source, target):
@@ -70,16 +76,17 @@ def strip_file(source, target):
 def manifest(name, crates):
     lines = ["[package]", f'name = "{name}"', 'version = "0.0.0"', 'edition = "2021"', ""]
     if name == EXPORTED:
-        lines += ["[lib]", 'crate-type = ["rlib", "cdylib"]', ""]
+        lines += ["[lib]", 'name = "x86_vcpu"', 'crate-type = ["cdylib"]', ""]
     lines += ["[lints.rust]", 'warnings = "allow"', "", "[dependencies]"]
-    lines += [f'{d} = {{ path = "../{d}" }}' for d in crates.get(name, [])]
+    needed = crates[name] + ["rattle"] * (name != "rattle")
+    lines += [f'{d} = {{ path = "../{d}" }}' for d in needed]
     return "\n".join(lines) + "\n"
 
 
 def strip_all(repository, out):
     """The whole repository; returns the crates with their dependencies."""
     crates = dependencies(repository)
-    crates.update({"libc": [], "check": [], "io": ["libc"], "os": [], "bytes": []})
+    crates["rattle"] = []
     out.mkdir(parents=True, exist_ok=True)
     members = []
     for name in crates:

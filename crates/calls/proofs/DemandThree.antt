@@ -4,7 +4,6 @@ use mathlib.Core.Path.{◌≡◌, refl, sym, ap, ◌∙◌, subst}
 use mathlib.Core.Bool.{Bool, false, cond, not}
 use mathlib.Core.List.{List, [], ◌∷◌, ◌++◌, append-nil, Memᴰ}
 use mathlib.Core.Logic.{inr}
-use mathlib.Core.Option.{none}
 use native.Mathlib.Omega.{arith}
 use lib.Dec.{eqb}
 use lib.ListN.{length, drop, length-append, length-drop}
@@ -27,7 +26,7 @@ use Rattle.blocks.specs.SetupBlock.{msrs_of}
 use Rattle.record.specs.Codec.{session_of}
 use Rattle.calls.specs.Moves.{Move, queues, finds_none, holds, writes, exits, fails, rests, moved, Tally, begun, tallied, tallied_all}
 use Rattle.calls.specs.Reference.{Call, entry, WellTyped, AllWellTyped, Event, entry_move, limits_of, start, Reference, EventFields, choose, is_held, answer_on, reference_answer, reference_after, reference_answers, Fed, own_rules}
-use Rattle.calls.specs.Calls.{step_of, new_record, after, logged_of, history_of, is_refused, Logged, fed, move_of, moves_of, tally_of, answers_of, written, event_of, waiting_of, words_of}
+use Rattle.calls.specs.Calls.{step_of, new_record, after, logged_of, history_of, is_refused, Logged, fed, move_of, moves_of, tally_of, answers_of, event_of, waiting_of, words_of}
 use Rattle.calls.specs.DemandThree.{Answers, Wrote, Launches, WaitLaw, is_written, Permits, Unwritten, judged_fields, Loadable, accepted_setup, WholeList}
 use Rattle.calls.proofs.Choices.{impossible, choose_yes, choose_no}
 use Rattle.calls.proofs.WordBits.{tabled}

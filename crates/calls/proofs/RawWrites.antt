@@ -95,6 +95,7 @@ placed_listed (e ∷ es) x h = go (eqb e x) refl h (placed_listed es x)
     go false q l ih = Memᴰ.tail (ih (omega arith))
 
 pub listed_placed : (es : List ℕ) (x : ℕ) → Memᴰ x es → position_of es x < length es
+listed_placed [] x m = elim m [ ]
 listed_placed (e ∷ es) x (Memᴰ.head q) = cond_all (λ (n : ℕ). n < suc (length es)) (eqb e x) _ _ (λ _. omega arith) (λ f. absurd (eqb-false e x f (sym q)))
 listed_placed (e ∷ es) x (Memᴰ.tail m) =
     let l = listed_placed es x m in

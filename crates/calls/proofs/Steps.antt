@@ -677,13 +677,13 @@ wide_of e v small =
 narrow_of : (e v : ℕ) → ltb (2 ^ width_by_bits e - 1) v ≡ false → Wide e v → ⊥
 unfolding width_by_bits
 narrow_of e v =
-    cond_all P (eqb (e / 2 ^ 13 % 4) 0) _ _
+    cond_all P (eqb (e / 2 ^ 13 % 4) 0) 16 (cond (eqb (e / 2 ^ 13 % 4) 2) 32 64)
     (λ t b o. elim o [
       | inl x ↦ (let z = ltb-false 65535 v b in let y = x.1 in omega arith)
       | inr y ↦
           (let z = eqb-true (e / 2 ^ 13 % 4) 0 t in let x = y.0 in omega arith)
     ])
-    (λ t. cond_all P (eqb (e / 2 ^ 13 % 4) 2) _ _
+    (λ t. cond_all P (eqb (e / 2 ^ 13 % 4) 2) 32 64
     (λ u b o. elim o [ inl x ↦ eqb-false _ _ t x.0 | inr y ↦ (let z = ltb-false 4294967295 v b in let x = y.1 in omega arith) ])
     (λ u b o. elim o [ inl x ↦ eqb-false _ _ t x.0 | inr y ↦ eqb-false _ _ u y.0 ]))
   where

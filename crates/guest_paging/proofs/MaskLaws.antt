@@ -29,6 +29,7 @@ holds true e = tt
 holds false e = absurd (false≢true e)
 
 one_meets : (ks : List ℕ) (e : ℕ) → OneSet ks e → Apart e (mask_of ks) → ⊥
+one_meets [] e o p = elim o [ ]
 one_meets (k ∷ ks) e (inl h) p = p.lacks k (holds (bit k e) h) ((within_or_l (2 ^ k) (mask_of ks) (2 ^ k) (within_refl (2 ^ k))).has k (bit_own k))
 one_meets (k ∷ ks) e (inr o) p =
     one_meets ks e o (record { lacks = λ i s t. p.lacks i s ((within_or_r (2 ^ k) (mask_of ks) (mask_of ks) (within_refl (mask_of ks))).has i t) })

@@ -1,4 +1,6 @@
 // The walk of the guest's page tables, from a guest-virtual to a guest-physical address (document 02, N6; SDM 3A, 4.3 to 4.6), with physical addresses of 52 bits.
+#![tactic(auto)]
+
 ghost use Rattle.std.specs.Prelude.{◌≡◌, ◌+◌, ◌≤◌, ◌<◌, ◌^◌, length};
 ghost use Rattle.guest_paging.specs.Walk.{for_access, entry_size, index_of, place_of, entry_at, is_page, is_pae_top, reserved_high, reserved_low, reserved_bits, broken_right, broken_rule, passes_user, broken_at_page, page_address, at_page, next_table, entry_gives, level_gives, walk_from, top_table, cut_address, page_walk_of};
 
@@ -91,6 +93,7 @@ pub fn for_access(i: GuestPageWalkInfo, kind: u8) -> GuestPageWalkInfo
 // ---- where an entry lies
 
 // The bytes of an entry.
+#[tactic(auto, unfolding(crate::specs::Walk::entry_size))]
 fn entry_size(levels: u8) -> u64
     ensures { result ≡ entry_size levels }
 {
@@ -101,6 +104,7 @@ fn entry_size(levels: u8) -> u64
 }
 
 // The index of an address into the table of a level.
+#[tactic(auto, unfolding(crate::specs::Walk::index_of))]
 fn index_of(levels: u8, level: u8, address: u64) -> u64
     ensures value { result ≡ index_of levels level address }
     ensures upper_bound { result < 1024 }
@@ -124,6 +128,7 @@ fn index_of(levels: u8, level: u8, address: u64) -> u64
 }
 
 // Where the entry of a level lies.
+#[tactic(auto, unfolding(crate::specs::Walk::place_of))]
 fn place_of(levels: u8, level: u8, address: u64, table: u64) -> u64
     requires { table < 2 ^ 52 }
     ensures value { result ≡ place_of levels level address table }
@@ -136,6 +141,7 @@ fn place_of(levels: u8, level: u8, address: u64, table: u64) -> u64
     table + index * 8
 }
 
+#[tactic(auto, unfolding(crate::specs::Walk::entry_at, crate::specs::Walk::entry_size))]
 fn entry_at(memory: &[u8], at: usize, levels: u8) -> u64
     requires { at + entry_size levels ≤ length memory.now }
     ensures { result ≡ entry_at memory.now at levels }
@@ -149,6 +155,7 @@ fn entry_at(memory: &[u8], at: usize, levels: u8) -> u64
 // ---- what an entry says
 
 // The entry maps a page: it is of the last level, or PS says so where it is judged.
+#[tactic(auto, unfolding(crate::specs::Walk::is_page))]
 fn is_page(levels: u8, level: u8, pse: bool, e: u64) -> bool
     ensures { result ≡ is_page levels level pse e }
 {
@@ -157,6 +164,7 @@ fn is_page(levels: u8, level: u8, pse: bool, e: u64) -> bool
 }
 
 // An entry of PAE's top table has no rights.
+#[tactic(auto, unfolding(crate::specs::Walk::is_pae_top))]
 fn is_pae_top(levels: u8, level: u8) -> bool
     ensures { result ≡ is_pae_top levels level }
 {
@@ -164,6 +172,7 @@ fn is_pae_top(levels: u8, level: u8) -> bool
 }
 
 // Reserved above the address: bit 63 without NXE, and with 3 levels bits 52 to 62.
+#[tactic(auto, unfolding(crate::specs::Walk::reserved_high))]
 fn reserved_high(levels: u8, nxe: bool) -> u64
     ensures { result ≡ reserved_high levels nxe }
 {
@@ -180,6 +189,7 @@ fn reserved_high(levels: u8, nxe: bool) -> u64
 }
 
 // Reserved below the address of a large page, and PS in the top table of 4 levels.
+#[tactic(auto, unfolding(crate::specs::Walk::reserved_low))]
 fn reserved_low(level: u8, page: bool) -> u64
     ensures { result ≡ reserved_low level page }
 {
@@ -199,6 +209,7 @@ fn reserved_low(level: u8, page: bool) -> u64
 }
 
 // The bits that must be 0: of a 4-MByte page bit 21; of an entry of PAE's top table bits 1, 2, 5 to 8 and 52 to 63.
+#[tactic(auto, unfolding(crate::specs::Walk::reserved_bits))]
 fn reserved_bits(levels: u8, level: u8, page: bool, nxe: bool) -> u64
     ensures { result ≡ reserved_bits levels level page nxe }
 {
@@ -215,6 +226,7 @@ fn reserved_bits(levels: u8, level: u8, page: bool, nxe: bool) -> u64
 }
 
 // The first of the rules on rights that an entry breaks, or 0.
+#[tactic(auto, unfolding(crate::specs::Walk::broken_right))]
 fn broken_right(i: GuestPageWalkInfo, e: u64) -> u8
     ensures { result ≡ broken_right i e }
 {
@@ -248,6 +260,7 @@ fn broken_rule(i: GuestPageWalkInfo, level: u8, page: bool, e: u64) -> u8
 }
 
 // The entry lets the user in, as far as it says.
+#[tactic(auto, unfolding(crate::specs::Walk::passes_user))]
 fn passes_user(levels: u8, level: u8, e: u64) -> bool
     ensures { result ≡ passes_user levels level e }
 {
@@ -257,6 +270,7 @@ fn passes_user(levels: u8, level: u8, e: u64) -> bool
 // ---- at the page
 
 // The rule that an access to a page breaks by the rights of all levels, or 0.
+#[tactic(auto, unfolding(crate::specs::Walk::broken_at_page))]
 fn broken_at_page(i: GuestPageWalkInfo, user: bool) -> u8
     ensures { result ≡ broken_at_page i user }
 {
@@ -276,6 +290,7 @@ fn broken_at_page(i: GuestPageWalkInfo, user: bool) -> u8
 }
 
 // The address in the page that an entry maps.
+#[tactic(auto, unfolding(crate::specs::Walk::page_address))]
 fn page_address(levels: u8, level: u8, e: u64, address: u64) -> u64
     ensures { result ≡ page_address levels level e address }
 {
@@ -293,6 +308,7 @@ fn page_address(levels: u8, level: u8, e: u64, address: u64) -> u64
     (e >> 30) % 0x40_0000 * 0x4000_0000 + address % 0x4000_0000
 }
 
+#[tactic(auto, unfolding(crate::specs::Walk::at_page))]
 fn at_page(i: GuestPageWalkInfo, address: u64, level: u8, e: u64, user: bool) -> Walked
     ensures { result ≡ at_page i address level e user }
 {
@@ -373,6 +389,7 @@ fn walk_level(
 }
 
 // The address of the top table: of CR3 bits 12 to 51 with 4 levels, 5 to 31 with 3, 12 to 31 with 2.
+#[tactic(auto, unfolding(crate::specs::Walk::top_table))]
 fn top_table(levels: u8, cr3: u64) -> u64
     ensures value { result ≡ top_table levels cr3 }
     ensures upper_bound { result < 2 ^ 52 }
@@ -387,6 +404,7 @@ fn top_table(levels: u8, cr3: u64) -> u64
 }
 
 // 48 bits of an address with 4 levels, else 32.
+#[tactic(auto, unfolding(crate::specs::Walk::cut_address))]
 fn cut_address(levels: u8, address: u64) -> u64
     ensures { result ≡ cut_address levels address }
 {
@@ -397,6 +415,7 @@ fn cut_address(levels: u8, address: u64) -> u64
 }
 
 // The walk of an access that the reading describes. Without paging the answer is the address itself.
+#[tactic(auto, unfolding(crate::specs::Walk::page_walk_of))]
 pub fn page_walk(memory: &[u8], i: GuestPageWalkInfo, address: u64) -> Walked
     ensures { result ≡ page_walk_of memory.now i address }
 {

@@ -12,7 +12,7 @@ use Rattle.text.specs.declared.hex.Parsed.TheVariants.{Number}
 use Rattle.text.proofs.HexLaws.{number_digits}
 use Rattle.text.proofs.DecimalLaws.{right_in}
 use Rattle.trap_sheet.specs.Runs.{Run, runs_of}
-use Rattle.trap_sheet.specs.Sheet.{Kind, kind_total, kind_runs, ports, msrs, port_kind, read_kind, write_kind, total_in, runs_in, total_line, total_line_of, run_line, run_lines_of, sheet_of}
+use Rattle.trap_sheet.specs.Sheet.{Kind, kind_total, kind_runs, ports, msrs, port_kind, read_kind, write_kind, runs_in, total_line, total_line_of, run_line, run_lines_of, sheet_of}
 use Rattle.trap_sheet.specs.Reference.{RunText, TotalText}
 use Rattle.trap_sheet.proofs.RunLaws.{most}
 

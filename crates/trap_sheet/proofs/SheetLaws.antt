@@ -1,5 +1,5 @@
 -- The sheet as the call makes it: from the bits of slices. Assumes nothing.
-use mathlib.Core.Path.{◌≡◌, sym, ap, ap₂, ◌∙◌}
+use mathlib.Core.Path.{◌≡◌, refl, sym, ap, ap₂, ◌∙◌}
 use mathlib.Core.List.{List, [], ◌++◌, flat_map, append-nil, append_assoc}
 use Prim.Native.Nat.{ℕ, ◌+◌, ◌-◌, ◌*◌, ◌≤◌}
 use native.Mathlib.Omega.{arith}
@@ -20,6 +20,11 @@ use Rattle.trap_sheet.proofs.FrameLaws.{port_runs, port_total, read_runs, read_t
 -- the half of the writes, as a slice to the frame's end
 abbrev pub write_half : List ℕ → List ℕ
 write_half msr = take (length msr - 2048) (drop 2048 msr)
+
+-- three lines
+pub totals_length : (a b msr : List ℕ) → length (total_lines a b msr) ≡ 123
+unfolding flat_map
+totals_length a b msr = refl
 
 module _ (a b msr : List ℕ) (la : length a ≡ 4096) (lb : length b ≡ 4096) (lm : length msr ≡ 4096) where
   writes : runs_in (msr_intercept msr Write) msrs ≡ access_runs (write_half msr)

@@ -54,6 +54,7 @@ fn sheet_length(a: &[u8], b: &[u8], msr: &[u8]) -> usize
 }
 
 // Puts the sheet at the start of output.
+#[tactic(auto, using(crate::proofs::SheetLaws::sheet_columns))]
 fn put_sheet(a: &[u8], b: &[u8], msr: &[u8], output: &mut [u8])
     requires { (length a.now ≡ 4096) × (length b.now ≡ 4096) × (length msr.now ≡ 4096) × (length (sheet_of a.now b.now msr.now) ≤ length output.old) }
     ensures { output.new ≡ put_at output.old 0 (sheet_of a.now b.now msr.now) }
@@ -65,6 +66,7 @@ fn put_sheet(a: &[u8], b: &[u8], msr: &[u8], output: &mut [u8])
 }
 
 // Puts the three total lines, and answers the place after them.
+#[tactic(auto, using(crate::proofs::SheetLaws::totals_length))]
 fn put_totals(a: &[u8], b: &[u8], msr: &[u8], output: &mut [u8]) -> usize
     requires { (length a.now ≡ 4096) × (length b.now ≡ 4096) × (length msr.now ≡ 4096) × (length (total_lines a.now b.now msr.now) ≤ length output.old) }
     ensures value { result ≡ length (total_lines a.now b.now msr.now) }

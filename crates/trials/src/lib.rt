@@ -1,6 +1,8 @@
 // Trials: what a call would answer and leave, shown in second buffers, while the record and the frames that it is given are only read. The number is found
 // from the bytes that decide it; only where it is 0 are the first buffers copied, and the copy is changed as the call would change the first. The entry and the report, whose
 // calls and trials share their bodies, stand here too.
+#![tactic(auto)]
+
 ghost use Rattle.std.specs.Prelude.{◌≡◌, true, cond, [], ℕ, length};
 ghost use Rattle.call_specs.specs.Calls.{reads, writes, both};
 ghost use Rattle.call_specs.specs.Records.{entry_call, EntryCalled};
@@ -24,6 +26,7 @@ fn given<'a>(first: &'a [u8], bytes: &'a [u8], trial: bool) -> &'a [u8]
 }
 
 // The bytes are a record and a block of a report.
+#[tactic(auto, unfolding(call_specs::specs::ReportCall::report_accepts))]
 fn report_accepts(bytes: &[u8], block: &[u8]) -> bool
     ensures { result ≡ report_accepts bytes.now block.now }
 {
@@ -38,7 +41,7 @@ fn copy_first(first: &[u8], bytes: &mut [u8], trial: bool)
     ensures { bytes.new ≡ cond trial first.now bytes.old }
 {
     if trial {
-        bytes::copy(first, bytes);
+        bytes.copy_from_slice(first);
         return;
     }
 }
@@ -142,7 +145,7 @@ pub fn try_entry(
     if number != 0 {
         return number;
     }
-    bytes::copy(bytes, shown);
+    shown.copy_from_slice(bytes);
     entry(shown, stack, resumed, injection)
 }
 
@@ -176,8 +179,8 @@ pub fn try_io_intercept_of_range(
     if number != 0 {
         return number;
     }
-    bytes::copy(a, shown_a);
-    bytes::copy(b, shown_b);
+    shown_a.copy_from_slice(a);
+    shown_b.copy_from_slice(b);
     structs::set_intercept_of_range(shown_a, shown_b, port_base, count, intercept == 1)
 }
 
@@ -199,7 +202,7 @@ fn show_frame(frame: &[u8], shown: &mut [u8], msr: u32, intercept: u8) -> u32
     if number != 0 {
         return number;
     }
-    bytes::copy(frame, shown);
+    shown.copy_from_slice(frame);
     0
 }
 

@@ -1,6 +1,6 @@
 -- The cases that document 01 works by hand, P1 to P13, and P8 and P9 as document 02 has them (N7): each with what the definitions give, and what it should be. Assumes nothing.
 use Rattle.std.specs.Prelude.{ℕ, cond, true, List, [], ◌∷◌}
-use Rattle.vmcs.specs.Control.{set_control, ControlNumbers, control_numbers}
+use Rattle.vmcs.specs.Control.{set_control, control_numbers}
 use Rattle.vmcs.specs.Field.{value_of, put}
 use Rattle.vmcs.specs.Names.VmcsControl32 as VmcsControl32
 use Rattle.vmcs.specs.Names.VmcsGuestNW as VmcsGuestNW

@@ -1,12 +1,11 @@
-// The trials: thin exports of `trials`, which has the bodies and says what they answer.
+// The trials: thin calls of `trials`, which has the bodies and says what they answer.
 ghost use Rattle.std.specs.Prelude.{◌≡◌};
 ghost use Rattle.call_specs.specs.Calls.{reads, writes, both};
 ghost use Rattle.trials.specs.Trial.{outcome};
 ghost use Rattle.trials.specs.Trials.{try_ports, try_msr, ReportTried, EntryTried};
 
 // What vcpu_exit_report would do, shown in a second record: refusals 2, 25, 1, 14, 15, 16, 18, 20, 19, 21, 17, 8.
-#[unsafe(no_mangle)]
-pub extern "C" fn vcpu_try_exit_report(
+pub fn vcpu_try_exit_report(
     bytes: &[u8],
     shown: &mut [u8],
     block: &[u8],
@@ -18,8 +17,7 @@ pub extern "C" fn vcpu_try_exit_report(
 }
 
 // What vcpu_entry would do, shown in a second record: refusals 2, 25, 1, 22.
-#[unsafe(no_mangle)]
-pub extern "C" fn vcpu_try_entry(
+pub fn vcpu_try_entry(
     bytes: &[u8],
     shown: &mut [u8],
     stack: u64,
@@ -32,8 +30,7 @@ pub extern "C" fn vcpu_try_entry(
 }
 
 // What vcpu_set_io_intercept_of_range would do, shown in a second A and a second B: refusals 2, 25, 10.
-#[unsafe(no_mangle)]
-pub extern "C" fn vcpu_try_io_intercept_of_range(
+pub fn vcpu_try_io_intercept_of_range(
     a: &[u8],
     b: &[u8],
     shown_a: &mut [u8],
@@ -48,34 +45,21 @@ pub extern "C" fn vcpu_try_io_intercept_of_range(
 }
 
 // What vcpu_set_read_intercept would do, shown in a second MSR frame: refusals 2, 25, 11.
-#[unsafe(no_mangle)]
-pub extern "C" fn vcpu_try_read_intercept(
-    frame: &[u8],
-    shown: &mut [u8],
-    msr: u32,
-    intercept: u8,
-) -> u32
+pub fn vcpu_try_read_intercept(frame: &[u8], shown: &mut [u8], msr: u32, intercept: u8) -> u32
     ensures { outcome result shown.new tt ≡ try_msr reads msr intercept frame.now shown.old tt }
 {
     trials::try_read_intercept(frame, shown, msr, intercept)
 }
 
 // What vcpu_set_write_intercept would do, shown in a second MSR frame: refusals 2, 25, 11.
-#[unsafe(no_mangle)]
-pub extern "C" fn vcpu_try_write_intercept(
-    frame: &[u8],
-    shown: &mut [u8],
-    msr: u32,
-    intercept: u8,
-) -> u32
+pub fn vcpu_try_write_intercept(frame: &[u8], shown: &mut [u8], msr: u32, intercept: u8) -> u32
     ensures { outcome result shown.new tt ≡ try_msr writes msr intercept frame.now shown.old tt }
 {
     trials::try_write_intercept(frame, shown, msr, intercept)
 }
 
 // What vcpu_set_msr_intercept_of_range would do, shown in a second MSR frame: refusals 2, 25, 11.
-#[unsafe(no_mangle)]
-pub extern "C" fn vcpu_try_msr_intercept_of_range(
+pub fn vcpu_try_msr_intercept_of_range(
     frame: &[u8],
     shown: &mut [u8],
     msr: u32,

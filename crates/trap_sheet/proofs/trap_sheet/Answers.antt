@@ -1,6 +1,4 @@
 use borrow.Author.Rules.{rules}
-use Rattle.bits.proofs.Tests.{answers}
-use Rattle.trap_sheet.specs.Sheet.{trap_sheet}
 use Rattle.trap_sheet.proofs.SheetLaws.{sheet_answer}
 use Rattle.trap_sheet.proofs.trap_sheet.Goals as goal
 

@@ -1,11 +1,8 @@
-use Prim.Native.Nat.{ℕ, ◌+◌, ◌-◌, ◌*◌, ◌≤◌, ◌<◌}
-use mathlib.Core.Path.{◌≡◌, refl}
+use Prim.Native.Nat.{ℕ, ◌-◌, ◌*◌, ◌≤◌, ◌<◌}
+use mathlib.Core.Path.{◌≡◌}
 use mathlib.Core.Bool.{not}
-use native.Mathlib.Omega.{arith}
-use borrow.Author.Rules.{rules}
 use lib.ListN.{length}
 use Rattle.structs.specs.Bitmap.{bit_at}
-use Rattle.trap_sheet.proofs.SearchLaws.{on}
 use Rattle.trap_sheet.proofs.search.next_bit.Given as goal
 
 abbrev pub invariant-loop-n : goal.invariant-loop-n

@@ -1,5 +1,4 @@
-use borrow.Author.Rules.{rules}
-use Rattle.trap_sheet.proofs.SearchLaws.{next_low, next_high, next_over}
+use Rattle.trap_sheet.proofs.SearchLaws.{next_high, next_over}
 use Rattle.trap_sheet.proofs.search.next_of.Goals as goal
 
 pub returns-then-border-from : goal.returns-then-border-from

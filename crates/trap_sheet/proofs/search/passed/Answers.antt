@@ -1,6 +1,5 @@
 use mathlib.Core.Path.{sym, ◌∙◌}
-use borrow.Author.Rules.{rules}
-use Rattle.trap_sheet.proofs.SearchLaws.{passed_eight, passed_byte, passed_none, passed_one}
+use Rattle.trap_sheet.proofs.SearchLaws.{passed_eight, passed_byte}
 use Rattle.trap_sheet.proofs.search.passed.Goals as goal
 
 pub returns-then-eight_are : goal.returns-then-eight_are

@@ -1,0 +1,89 @@
+// The trials, exported.
+ghost use Rattle.std.specs.Prelude.{◌≡◌};
+ghost use Rattle.call_specs.specs.Calls.{reads, writes, both};
+ghost use Rattle.trials.specs.Trial.{outcome};
+ghost use Rattle.trials.specs.Trials.{try_ports, try_msr, ReportTried, EntryTried};
+
+// What vcpu_exit_report would do, shown in a second record: refusals 2, 25, 1, 14, 15, 16, 18, 20, 19, 21, 17, 8.
+#[unsafe(no_mangle)]
+pub extern "C" fn vcpu_try_exit_report(
+    bytes: &[u8],
+    shown: &mut [u8],
+    block: &[u8],
+    answer: &mut [u64; 8],
+) -> u32
+    ensures { ReportTried bytes.now shown.old block.now answer.old result shown.new answer.new }
+{
+    x86_vcpu::trial::vcpu_try_exit_report(bytes, shown, block, answer)
+}
+
+// What vcpu_entry would do, shown in a second record: refusals 2, 25, 1, 22.
+#[unsafe(no_mangle)]
+pub extern "C" fn vcpu_try_entry(
+    bytes: &[u8],
+    shown: &mut [u8],
+    stack: u64,
+    resumed: &mut u8,
+    injection: &mut u8,
+) -> u32
+    ensures { EntryTried stack bytes.now shown.old resumed.old injection.old result shown.new resumed.new injection.new }
+{
+    x86_vcpu::trial::vcpu_try_entry(bytes, shown, stack, resumed, injection)
+}
+
+// What vcpu_set_io_intercept_of_range would do, shown in a second A and a second B: refusals 2, 25, 10.
+#[unsafe(no_mangle)]
+pub extern "C" fn vcpu_try_io_intercept_of_range(
+    a: &[u8],
+    b: &[u8],
+    shown_a: &mut [u8],
+    shown_b: &mut [u8],
+    port_base: u32,
+    count: u32,
+    intercept: u8,
+) -> u32
+    ensures { outcome result (record { a = shown_a.new; b = shown_b.new }) tt ≡ try_ports port_base count intercept (record { a = a.entry.now; b = b.now }) (record { a = shown_a.old; b = shown_b.old }) tt }
+{
+    x86_vcpu::trial::vcpu_try_io_intercept_of_range(
+        a, b, shown_a, shown_b, port_base, count, intercept,
+    )
+}
+
+// What vcpu_set_read_intercept would do, shown in a second MSR frame: refusals 2, 25, 11.
+#[unsafe(no_mangle)]
+pub extern "C" fn vcpu_try_read_intercept(
+    frame: &[u8],
+    shown: &mut [u8],
+    msr: u32,
+    intercept: u8,
+) -> u32
+    ensures { outcome result shown.new tt ≡ try_msr reads msr intercept frame.now shown.old tt }
+{
+    x86_vcpu::trial::vcpu_try_read_intercept(frame, shown, msr, intercept)
+}
+
+// What vcpu_set_write_intercept would do, shown in a second MSR frame: refusals 2, 25, 11.
+#[unsafe(no_mangle)]
+pub extern "C" fn vcpu_try_write_intercept(
+    frame: &[u8],
+    shown: &mut [u8],
+    msr: u32,
+    intercept: u8,
+) -> u32
+    ensures { outcome result shown.new tt ≡ try_msr writes msr intercept frame.now shown.old tt }
+{
+    x86_vcpu::trial::vcpu_try_write_intercept(frame, shown, msr, intercept)
+}
+
+// What vcpu_set_msr_intercept_of_range would do, shown in a second MSR frame: refusals 2, 25, 11.
+#[unsafe(no_mangle)]
+pub extern "C" fn vcpu_try_msr_intercept_of_range(
+    frame: &[u8],
+    shown: &mut [u8],
+    msr: u32,
+    intercept: u8,
+) -> u32
+    ensures { outcome result shown.new tt ≡ try_msr both msr intercept frame.now shown.old tt }
+{
+    x86_vcpu::trial::vcpu_try_msr_intercept_of_range(frame, shown, msr, intercept)
+}

@@ -1,5 +1,5 @@
 -- What is printed for an input is decided by its first 12,289 bytes. Assumes nothing.
-use Rattle.std.proofs.Common.{◌≡◌, ℕ, ◌<◌, ◌≤◌, List, ◌++◌, Option, None, Some, IfSome, OnOk, Result, Ok, Err, Bool, true, false, refl, arith, length, take, sym, ap, subst, ◌∙◌, length-take-le, take_all}
+use Rattle.std.proofs.Common.{◌≡◌, ℕ, ◌<◌, List, ◌++◌, Option, None, Some, IfSome, OnOk, Result, Ok, Err, Bool, true, false, refl, arith, length, take, sym, ap, subst, ◌∙◌, length-take-le, take_all}
 use Rattle.std.proofs.lemmas.List.{take_at}
 use lib.Dec.{ltb}
 use borrow.Author.Tests.{ltb-true, ltb-false, ne_eqb}
@@ -9,7 +9,8 @@ use Rattle.trap_sheet_io.specs.Printed.{printed_for}
 
 refused_for : (input : List ℕ) → 12288 < length input → printed_for input ≡ ascii "refused 2\n"
 unfolding printed_for
-refused_for input h = let other : length input ≡ 12288 → ⊥ = λ e. omega arith in rw (ne_eqb (length input) 12288 other)
+refused_for input h = let other : length input ≡ 12288 → ⊥ = λ e. omega arith in
+    rw (ne_eqb (length input) 12288 other)
 
 start_at : (input : List ℕ) (t : Bool) → ltb 12289 (length input) ≡ t → printed_for (take 12289 input) ≡ printed_for input
 start_at input true e =

@@ -1,6 +1,8 @@
 // What every list of calls comes to is a theorem about the steps of a list (crate `calls`), and what every list of edits of intercepts comes to is one about edits
 // (crate `intercepts`). The functions here tie these steps and edits to the exported functions: each calls one of them and ensures its step, so that a contract that
 // says less than the step is refused. Nothing calls these.
+#![tactic(auto)]
+
 ghost use Rattle.std.specs.Prelude.{◌≡◌};
 ghost use Rattle.calls.specs.Reference.{queue_event, inject_interrupt, apic_value, field_write, register_write};
 ghost use Rattle.calls.specs.CallContracts.{Creates, Does, SetsUp, Enters, Reports};
@@ -77,25 +79,25 @@ fn set_io_intercept_of_range(
     count: u32,
     intercept: u8,
 ) -> u32
-    ensures { record { refusal = result; frames = record { a = a.exit.now; b = b.new; msr = msr.now } } ≡ edited (record { a = a.entry.now; b = b.old; msr = msr.now }) (set_io_intercept_of_range port_base count intercept) }
+    ensures { record { refusal = result; frames = record { a = a.new; b = b.new; msr = msr.now } } ≡ edited (record { a = a.old; b = b.old; msr = msr.now }) (set_io_intercept_of_range port_base count intercept) }
 {
     x86_vcpu::vcpu_set_io_intercept_of_range(a, b, port_base, count, intercept)
 }
 
 fn set_read_intercept(a: &[u8], b: &[u8], frame: &mut [u8], msr: u32, intercept: u8) -> u32
-    ensures { record { refusal = result; frames = record { a = a.entry.now; b = b.now; msr = frame.new } } ≡ edited (record { a = a.entry.now; b = b.now; msr = frame.old }) (set_read_intercept msr intercept) }
+    ensures { record { refusal = result; frames = record { a = a.now; b = b.now; msr = frame.new } } ≡ edited (record { a = a.now; b = b.now; msr = frame.old }) (set_read_intercept msr intercept) }
 {
     x86_vcpu::vcpu_set_read_intercept(frame, msr, intercept)
 }
 
 fn set_write_intercept(a: &[u8], b: &[u8], frame: &mut [u8], msr: u32, intercept: u8) -> u32
-    ensures { record { refusal = result; frames = record { a = a.entry.now; b = b.now; msr = frame.new } } ≡ edited (record { a = a.entry.now; b = b.now; msr = frame.old }) (set_write_intercept msr intercept) }
+    ensures { record { refusal = result; frames = record { a = a.now; b = b.now; msr = frame.new } } ≡ edited (record { a = a.now; b = b.now; msr = frame.old }) (set_write_intercept msr intercept) }
 {
     x86_vcpu::vcpu_set_write_intercept(frame, msr, intercept)
 }
 
 fn set_msr_intercept_of_range(a: &[u8], b: &[u8], frame: &mut [u8], msr: u32, intercept: u8) -> u32
-    ensures { record { refusal = result; frames = record { a = a.entry.now; b = b.now; msr = frame.new } } ≡ edited (record { a = a.entry.now; b = b.now; msr = frame.old }) (set_msr_intercept_of_range msr intercept) }
+    ensures { record { refusal = result; frames = record { a = a.now; b = b.now; msr = frame.new } } ≡ edited (record { a = a.now; b = b.now; msr = frame.old }) (set_msr_intercept_of_range msr intercept) }
 {
     x86_vcpu::vcpu_set_msr_intercept_of_range(frame, msr, intercept)
 }

@@ -127,7 +127,7 @@ pub fn port_part<'a>(a: &'a [u8], b: &'a [u8], port: u32) -> &'a [u8]
 // Sets the intercepts of count ports from `from` on to v: those below FIRST_PORT_OF_B in A, the others in B.
 fn set_ports(a: &mut [u8], b: &mut [u8], from: usize, count: usize, v: bool)
     requires { (length a.old ≡ 4096) × (length b.old ≡ 4096) × (from + count ≤ 65536) }
-    ensures { record { a = a.exit.now; b = b.new } ≡ set_ports (record { a = a.entry.now; b = b.old }) from count v }
+    ensures { record { a = a.new; b = b.new } ≡ set_ports (record { a = a.old; b = b.old }) from count v }
 {
     let to = from + count;
     let from_a = smaller(from, FIRST_PORT_OF_B);

@@ -39,7 +39,7 @@ pub fn vcpu_try_io_intercept_of_range(
     count: u32,
     intercept: u8,
 ) -> u32
-    ensures { outcome result (record { a = shown_a.new; b = shown_b.new }) tt ≡ try_ports port_base count intercept (record { a = a.entry.now; b = b.now }) (record { a = shown_a.old; b = shown_b.old }) tt }
+    ensures { outcome result (record { a = shown_a.new; b = shown_b.new }) tt ≡ try_ports port_base count intercept (record { a = a.now; b = b.now }) (record { a = shown_a.old; b = shown_b.old }) tt }
 {
     trials::try_io_intercept_of_range(a, b, shown_a, shown_b, port_base, count, intercept)
 }

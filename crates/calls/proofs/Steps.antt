@@ -29,7 +29,7 @@ use Rattle.vmcs.specs.Names.VmcsHostNW as VmcsHostNW
 use Rattle.vmcs.specs.Names.VmcsReadOnly32 as VmcsReadOnly32
 use Rattle.vmcs.specs.declared.Written.{Written as FieldsWritten}
 use Rattle.vmcs.proofs.TableTest.{table}
-use Rattle.vmcs.proofs.FieldLaws.{greatest_by_bits}
+use Rattle.vmcs.proofs.WidthLaws.{greatest_by_bits}
 use Rattle.regs.specs.Registers.{with_reg_of_index}
 use Rattle.regs.specs.declared.RegWritten.{RegWritten}
 use Rattle.vcpu_session.specs.Session.{LAST_ENTRY, Lawful, with_vmcs, with_queue}

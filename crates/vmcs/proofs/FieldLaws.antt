@@ -1,10 +1,10 @@
 -- The width of an encoding: what the ranges say is what bits 13 to 14 say, and for one of the table the width of its field. Assumes nothing.
-use Prim.Native.Nat.{ℕ, ◌<◌, ◌≤◌, ◌-◌, ◌/◌, ◌%◌, ◌^◌}
-use mathlib.Core.Path.{◌≡◌, refl, ap}
+use Prim.Native.Nat.{ℕ, ◌<◌, ◌≤◌, ◌/◌, ◌%◌, ◌^◌}
+use mathlib.Core.Path.{◌≡◌, refl}
 use mathlib.Core.Bool.{Bool, true, false, cond}
 use native.Mathlib.Omega.{arith}
 use lib.ListN.{get_or}
-use lib.Dec.{T, eqb, leb, ltb, eqb→eq, ltb→lt}
+use lib.Dec.{T, eqb, leb, ltb, eqb→eq}
 use borrow.Author.Tests.{leb-true, leb-false, ltb-false}
 use lib.Pow.{pow_pos}
 use Rattle.bits.proofs.AllBelow.{below}
@@ -61,29 +61,6 @@ width_agrees e h = eqb→eq _ _ (each_listed (λ p e. eqb (width_of e) (width_bi
 pub fits_field : (e x : ℕ) → position_of encodings e < 154 → x ≤ greatest_of e → x < 2 ^ width_bits (field_of e)
 unfolding greatest_of
 fits_field e x h l = rw (← (width_agrees e h)) (omega (arith, pow_pos (width_of e)))
-
--- every encoding of the table is below 0x8000
-below_0x8000 : T (below (λ p. ltb (get_or encodings p 0) 0x8000) 154)
-unfolding encodings named
-below_0x8000 = tt
-
--- so the greatest number of its field is that of the width by bits 13 to 14
-pub greatest_by_bits : (e : ℕ) → position_of encodings e < 154 → greatest_of e ≡ 2 ^ width_by_bits e - 1
-unfolding greatest_of
-greatest_by_bits e h =
-    let small : e < 0x8000 = ltb→lt _ _ (each_listed (λ p e. ltb e 0x8000) below_0x8000 e h) in
-    ap (λ (w : ℕ). 2 ^ w - 1) (same_width e (omega arith))
-
--- for every number, in the table or not: the refusal of a write is the one that it has with the width by bits 13 to 14
-pub no_answer_changes : (e x : ℕ)
-    → write_refusal e x ≡ cond (leb 154 (position_of encodings e)) 3 (cond (read_only e) 4 (cond (ltb (2 ^ width_by_bits e - 1) x) 5 0))
-unfolding write_refusal
-no_answer_changes e x = go (leb 154 (position_of encodings e)) refl
-  where
-    go : (t : Bool) → leb 154 (position_of encodings e) ≡ t
-        → cond {A = ℕ} t 3 (cond (read_only e) 4 (cond (ltb (greatest_of e) x) 5 0)) ≡ cond t 3 (cond (read_only e) 4 (cond (ltb (2 ^ width_by_bits e - 1) x) 5 0))
-    go true a = refl
-    go false a = rw (greatest_by_bits e (leb-false _ _ a))
 
 -- ---- a write, by its refusal
 

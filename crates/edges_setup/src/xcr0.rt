@@ -86,41 +86,41 @@ fn value(rt: &impl Print, supported: u64, value: u64) -> io::Result<()> {
 }
 
 fn x87_sse_avx(rt: &impl Print) -> io::Result<()> {
-    for value in [1, 3, 7, 0, 2, 5, 6] {
-        value(rt, 7, value)?;
+    for xcr0 in [1, 3, 7, 0, 2, 5, 6] {
+        value(rt, 7, xcr0)?;
     }
     Ok(())
 }
 
 fn mpx(rt: &impl Print) -> io::Result<()> {
-    for (supported, value) in [
+    for (supported, xcr0) in [
         (7, 0xF),
         (0x1F, 0x19),
         (0x1F, 0x1F),
         (0x1F, 0x9),
         (0x1F, 0x11),
     ] {
-        value(rt, supported, value)?;
+        value(rt, supported, xcr0)?;
     }
     Ok(())
 }
 
 fn avx512(rt: &impl Print) -> io::Result<()> {
-    for value in [0xE7, 0xE3, 0x27, 0xC7, 0xA7, 0x67] {
-        value(rt, 0xE7, value)?;
+    for xcr0 in [0xE7, 0xE3, 0x27, 0xC7, 0xA7, 0x67] {
+        value(rt, 0xE7, xcr0)?;
     }
     Ok(())
 }
 
 fn amx(rt: &impl Print) -> io::Result<()> {
-    for value in [0x6_0001, 0x2_0001, 0x4_0001] {
-        value(rt, 0x6_0007, value)?;
+    for xcr0 in [0x6_0001, 0x2_0001, 0x4_0001] {
+        value(rt, 0x6_0007, xcr0)?;
     }
     Ok(())
 }
 
 fn supported_alone(rt: &impl Print) -> io::Result<()> {
-    for (supported, value) in [
+    for (supported, xcr0) in [
         (0x207, 0x201),
         (7, 0x201),
         (0xFFFF_FFFF_FFFF_FFFF, 0x101),
@@ -130,7 +130,7 @@ fn supported_alone(rt: &impl Print) -> io::Result<()> {
         (6, 1),
         (0, 1),
     ] {
-        value(rt, supported, value)?;
+        value(rt, supported, xcr0)?;
     }
     Ok(())
 }

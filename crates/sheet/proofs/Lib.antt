@@ -1,4 +1,3 @@
-pub mod PrintedLaws
 pub mod LineLaws
 pub mod SheetLaws
 pub mod FormLaws

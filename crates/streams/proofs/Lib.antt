@@ -1,1 +1,2 @@
 pub mod StartLaws
+pub mod PrintedLaws

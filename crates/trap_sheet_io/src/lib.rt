@@ -1,4 +1,6 @@
 // The program trapsheet, as a function from the bytes that it reads to the text that it prints; and that from a file to standard output.
+#![tactic(auto)]
+
 pub mod file;
 
 ghost use Rattle.std.specs.Prelude.{◌≡◌, ◌++◌, length, drop};

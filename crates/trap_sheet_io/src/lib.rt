@@ -1,4 +1,4 @@
-// The program trapsheet, as a function from the bytes that it reads to the text that it prints; and that from a file to standard output.
+// The program trapsheet, as a function from the bytes that it reads to the text that it prints; and that from one stream to another.
 #![tactic(auto)]
 
 pub mod file;

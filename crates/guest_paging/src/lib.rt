@@ -243,6 +243,7 @@ fn broken_right(i: GuestPageWalkInfo, e: u64) -> u8
 }
 
 // The first rule that an entry breaks by itself, or 0.
+#[tactic(auto, unfolding(crate::specs::Walk::broken_rule))]
 fn broken_rule(i: GuestPageWalkInfo, level: u8, page: bool, e: u64) -> u8
     ensures { result ≡ broken_rule i level page e }
 {

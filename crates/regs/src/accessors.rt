@@ -22,7 +22,7 @@ pub fn index_refusal(index: u64) -> u32
     0
 }
 
-// The register at an index, or its refusal. By value, as `written` is: the borrow checker covers no struct behind a reference.
+// The register at an index, or its refusal, by value.
 fn read(g: GeneralRegisters, index: u64) -> RegAnswer
     ensures { result ≡ reg_of_index g index }
 {

@@ -19,7 +19,8 @@ pub fn sheet(input: &[u8], output: &mut [u8; ROOM]) -> usize
     ensures count { result ≡ length (sheet_of input.now) }
     ensures text { output.new ≡ sheet_of input.now ++ drop result output.old }
 {
-    if LONGEST < input.len() {
+    let longer = LONGEST < input.len();
+    if longer {
         return text::put(output, 0, b"too long\n");
     }
     put_lines(input, output)

@@ -70,6 +70,9 @@ ones_are_items (b ∷ bs) h =
 
 -- ---- the loop: what is counted, and what is left
 
+pub ones_none : (xs : List ℕ) → 0 + ones_of (drop 0 xs) ≡ ones_of xs
+ones_none xs = zero-add _
+
 pub ones_more : (xs : List ℕ) (i : ℕ) → i < length xs → ones_of (drop i xs) ≡ ones (get_or xs i 0) + ones_of (drop (i + 1) xs)
 unfolding ones_of
 ones_more xs i h = rw (drop-cons xs i 0 h, add-one)

@@ -1,14 +1,15 @@
 -- A search passes whole bytes, and no bit that it looks for. Assumes nothing.
 use mathlib.Core.Path.{◌≡◌, ap, ◌∙◌}
-use mathlib.Core.Bool.{Bool, true, not}
+use mathlib.Core.Bool.{Bool, true, false, not}
 use mathlib.Core.List.{List, ◌++◌}
 use mathlib.Core.Logic.{dite}
-use Prim.Native.Nat.{ℕ, zero, suc, ◌+◌, ◌-◌, ◌*◌, ◌/◌, ◌%◌, ◌≤◌, ◌<◌}
+use Prim.Native.Nat.{ℕ, zero, suc, ◌+◌, ◌-◌, ◌*◌, ◌/◌, ◌%◌, ◌^◌, ◌≤◌, ◌<◌}
 use native.Mathlib.Decide.{dec_lt, ℕ_discrete}
 use native.Mathlib.Omega.{arith}
-use borrow.Author.Tests.{eqb-true}
+use borrow.Author.Tests.{eq-eqb, ne_eqb, eqb-true}
 use lib.Dec.{eqb}
 use lib.ListN.{length, get_or, length-append}
+use Rattle.bits.specs.Words.{flag}
 use Rattle.bits.proofs.Tells.{both_true}
 use Rattle.structs.specs.Bitmap.{full_byte, bit_at}
 use Rattle.structs.proofs.BitmapLaws.{bit_at_first, bit_at_second, bit_full_byte}
@@ -48,6 +49,30 @@ module _ (xs : List ℕ) (v : Bool) (n : ℕ) where
         other = λ m (a : n ≤ m) (b : m < n + 8). let w : m / 8 ≡ n / 8 = omega arith in no_bit m (ap (λ (i : ℕ). get_or xs i 0) w ∙ e ∙ q);
       }
 
+  pub passed_none : n < 8 * length xs → get_or xs (n / 8) 0 / 2 ^ (n % 8) % 2 ≡ flag v → Passed xs v n 0
+  passed_none h e =
+      record {
+        within = omega arith;
+        found = λ _. is_bit v (get_or xs (n / 8) 0 / 2 ^ (n % 8) % 2) e;
+        other = λ m (a : n ≤ m) (b : m < n + 0). absurd (omega arith);
+      }
+    where
+      is_bit : (v : Bool) (x : ℕ) → x ≡ flag v → eqb x 1 ≡ v
+      is_bit true x f = eq-eqb x 1 f
+      is_bit false x f = ne_eqb x 1 (λ (g : x ≡ 1). omega (arith, f, g))
+
+  pub passed_one : n < 8 * length xs → (get_or xs (n / 8) 0 / 2 ^ (n % 8) % 2 ≡ flag v → ⊥) → Passed xs v n 1
+  passed_one h e =
+      record {
+        within = omega arith;
+        found = λ (f : ◌≡◌ {A = ℕ} 1 0). absurd (omega arith);
+        other = λ m (a : n ≤ m) (b : m < n + 1). let w : m ≡ n = omega arith in rw w (other_bit v (get_or xs (n / 8) 0 / 2 ^ (n % 8) % 2) (omega arith) e);
+      }
+    where
+      other_bit : (v : Bool) (x : ℕ) → x < 2 → (x ≡ flag v → ⊥) → eqb x 1 ≡ not v
+      other_bit true x l f = ne_eqb x 1 f
+      other_bit false x l f = eq-eqb x 1 (dite (ℕ_discrete x 0) (λ z. absurd (f z)) (λ z. omega arith))
+
 -- what holds of each item from `from` on below n, and from n on below p, holds below p
 pub on : (P : ℕ → Type 0) (from n p : ℕ) → ((m : ℕ) → from ≤ m → m < n → P m) → ((m : ℕ) → n ≤ m → m < p → P m) → (m : ℕ) → from ≤ m → m < p → P m
 on P from n p f g m a b = dite (dec_lt m n) (λ l. f m a l) (λ l. g m (omega arith) b)
@@ -62,6 +87,15 @@ module _ (xs ys : List ℕ) where
   total = rw (length-append xs ys) (omega arith)
 
   module _ (v : Bool) (from r : ℕ) where
+    pub next_low : Next xs v from r → r < 8 * length xs → Next (xs ++ ys) v from r
+    next_low s h =
+        record {
+          after = s.after;
+          within = omega (arith, total);
+          other = λ m a b. bit_at_first xs ys m (omega arith) ∙ s.other m a b;
+          found = λ _. bit_at_first xs ys r h ∙ s.found h;
+        }
+
     pub next_high : 8 * length xs ≤ from → Next ys v (from - 8 * length xs) r → Next (xs ++ ys) v from (8 * length xs + r)
     next_high h s =
         record {

@@ -16,10 +16,10 @@ returns-then-phase_at-eq-ENDED c = refused c.requires (rw (never_unlawful _ c.re
 pub waiting_at-requires : goal.waiting_at-requires
 waiting_at-requires c = search (whole, rules)
 
-pub returns-then-waiting_at-ge64 : goal.returns-then-waiting_at-ge64
+pub returns-then-waiting_at-ge-CAPACITY : goal.returns-then-waiting_at-ge-CAPACITY
 unfolding queue_event
-returns-then-waiting_at-ge64 c = refused c.requires (rw (never_unlawful _ c.requires, ← c.phase_at.ensures, ne_eqb _ _ c.if-phase_at-eq-ENDED.false, ← c.waiting_at.ensures, le-leb 64 _ c.if-waiting_at-ge64.true))
+returns-then-waiting_at-ge-CAPACITY c = refused c.requires (rw (never_unlawful _ c.requires, ← c.phase_at.ensures, ne_eqb _ _ c.if-phase_at-eq-ENDED.false, ← c.waiting_at.ensures, le-leb 64 _ c.if-waiting_at-ge-CAPACITY.true))
 
 pub returns : goal.returns
 unfolding queue_event
-returns c = edited c.push_back.ensures (rw (never_unlawful _ c.requires, ← c.phase_at.ensures, ne_eqb _ _ c.if-phase_at-eq-ENDED.false, ← c.waiting_at.ensures, lt-leb 64 _ c.if-waiting_at-ge64.false))
+returns c = edited c.push_back.ensures (rw (never_unlawful _ c.requires, ← c.phase_at.ensures, ne_eqb _ _ c.if-phase_at-eq-ENDED.false, ← c.waiting_at.ensures, lt-leb 64 _ c.if-waiting_at-ge-CAPACITY.false))

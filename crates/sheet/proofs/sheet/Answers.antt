@@ -4,8 +4,8 @@ use Rattle.sheet.specs.Sheet.{too_long, printed_lines}
 use Rattle.sheet.proofs.SheetLaws.{sheet_long, sheet_lines, printed_fits, sheet_put}
 use Rattle.sheet.proofs.sheet.Goals as goal
 
-pub returns-then-input-gt-LONGEST : goal.returns-then-input-gt-LONGEST
-returns-then-input-gt-LONGEST c =
+pub returns-then-longer : goal.returns-then-longer
+returns-then-longer c =
     let put = sheet_put c.args.input.now c.args.output.now _ too_long _ (sheet_long _ (search rules)) c.put.ensures.value c.put.ensures.buffer_after in
     record { count = put.0; text = put.1 }
 

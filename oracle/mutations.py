@@ -174,7 +174,7 @@ MUTATIONS = [Mutation(*texts) for texts in [
     ("        record_edits::put_xcr0(b, vcpu_exit::read_edx_eax(registers));\n", ""),
     ("record_edits::put_xcr0(b, vcpu_exit::read_edx_eax(registers));", "record_edits::put_xcr0(b, registers.rax);"),
     # The steps on a record.
-    ("if record::phase_at(b) == Phase::ENDED {\n        return Refusal::PHASE;\n    }\n    if 64 <=", "if record::phase_at(b) == Phase::FRESH {\n        return Refusal::PHASE;\n    }\n    if 64 <="),
+    ("if record::phase_at(b) == Phase::ENDED {\n        return Refusal::PHASE;\n    }\n    if CAPACITY <=", "if record::phase_at(b) == Phase::FRESH {\n        return Refusal::PHASE;\n    }\n    if CAPACITY <="),
     ("const CAPACITY: u8 = 64;", "const CAPACITY: u8 = 63;"),
     ("if record::phase_at(b) == Phase::ENDED {\n        return Refusal::PHASE;\n    }\n    if vector == 0 {", "if vector == 0 {"),
     ("if vector == 0 {", "if vector == 1 {"),

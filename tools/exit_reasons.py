@@ -20,18 +20,16 @@ assert reasons == sorted(reasons, key=lambda r: r[1])
 
 out = {}
 text = """// The basic exit reasons (SDM 3D, appendix C) by their names in definitions.rs.
-// Ported from the enum VmxExitReason of x86_vcpu src/vmx/definitions.rs (Copyright 2025 The Axvisor Team, Apache-2.0). Changed: the reasons are numbers.
+// Ported from the enum VmxExitReason of x86_vcpu src/vmx/definitions.rs (Copyright 2025 The Axvisor Team, Apache-2.0). Changed: reserved numbers have no name.
 ghost use Rattle.std.specs.Prelude.{◌≡◌};
 ghost use Rattle.definitions.specs.ExitReasons.{exit_reasons};
 
-#[derive(Drop)]
-pub struct VmxExitReason {}
-
-impl VmxExitReason {
+#[derive(Clone, Copy, Debug, PartialEq, Eq, Hash)]
+pub enum VmxExitReason {
 """
-text += "\n".join("    pub const %s: u32 = %d;\n" % r for r in reasons) + "}\n"
+text += "\n".join("    %s = %d,\n" % r for r in reasons) + "}\n"
 text += "\nconst EXIT_REASONS: [u32; %d] = [\n" % len(reasons)
-text += "".join("    VmxExitReason::%s,\n" % name for name, _ in reasons) + "];\n"
+text += "".join("    VmxExitReason::%s as u32,\n" % name for name, _ in reasons) + "];\n"
 text += """
 // Every name in the order of its number: the contract ties each to its number.
 pub fn exit_reasons() -> [u32; %d]

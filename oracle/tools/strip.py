@@ -1,6 +1,6 @@
 #!/usr/bin/env python3
-"""Turns the repository's crates into a Rust workspace: contracts, ghost lines and hints for proofs go, plain data becomes
-Copy, and what reads and prints does so by tools/kit. For runs and for mutants, with overflow checks on; it proves nothing.
+"""Turns the repository's crates into a Rust workspace: contracts, ghost items and hints for proofs go, and so do the derives
+and bounds of Drop, which each type has in Rust. What reads and prints does so by tools/kit. For runs and for mutants, with overflow checks on; it proves nothing.
 
 usage: strip.py REPOSITORY OUT
 
@@ -37,15 +37,19 @@ def dependencies(repository):
     return crates
 
 
-def without_clauses(text):
-    """The text without each `requires {..}`, `ensures {..}`, `ghost {..}` between a signature and its body."""
+def without_ghosts(text):
+    """The text without each `requires {..}` and `ensures {..}` between a signature and its body, and without each ghost item:
+    a `ghost use`, a ghost field, and what a trait or an impl has as ghost."""
     parts, at = [], 0
-    for match in re.finditer(r"\n[ \t]+(requires|ensures|ghost)\b[^{;]*\{", text):
+    start = r"\n(?:[ \t]+(?:requires|ensures)\b[^{;]*\{|[ \t]*(?:pub )?ghost\b[^{;]*[{;])"
+    for match in re.finditer(start, text):
         if match.start() < at:
             continue
-        depth, end = 1, match.end()
+        depth, end = int(text[match.end() - 1] == "{"), match.end()
         while depth:
             depth += {"{": 1, "}": -1}.get(text[end], 0)
+            end += 1
+        if "ghost" in match.group() and text[end] in ",;":
             end += 1
         parts.append(text[at:match.start()])
         at = end
@@ -54,15 +58,13 @@ def without_clauses(text):
 
 def stripped(text):
     """A Rattle file as Rust."""
-    text = re.sub(r"^ghost use [^;]*;\n", "", text, flags=re.M)
-    text = re.sub(r"^[ \t]*#!?\[(?:tactic|cycle|derive)\b.*?\]\n", "", text, flags=re.M | re.S)
-    text = without_clauses(text)
+    text = without_ghosts("\n" + text)
+    text = re.sub(r"^[ \t]*#!?\[(?:tactic|cycle)\b.*?\]\n", "", text, flags=re.M | re.S)
+    text = re.sub(r"^[ \t]*#\[derive\(Drop\)\]\n|(?::| \+) Drop\b", "", text, flags=re.M)
     text = re.sub(r"\bstd::(io|fs)\b", r"rattle::\1", text)
     text = text.replace("fn fmt<W: fmt::Write>(&self, f: &mut Formatter<W>)", "fn fmt(&self, f: &mut Formatter)")
     text = re.sub(r"^fn main\((\w+): HostRuntime\)(.*)\{$", r"fn main()\2{ let \1 = HostRuntime;", text, flags=re.M)
-    derive = r"\1#[derive(Clone, Copy, Debug, PartialEq, Eq)]\n\1\2"
-    text = re.sub(r"^(\s*)((?:pub )?(?:struct|enum) )", derive, text, flags=re.M)
-    return "use rattle::{print, println, HostRuntime, Print};\n" + text
+    return "use rattle::{print, println, HostRuntime, Input, Print};\n" + text
 
 
 def strip_file(source, target):
@@ -74,7 +76,7 @@ def strip_file(source, target):
 
 
 def manifest(name, crates):
-    lines = ["[package]", f'name = "{name}"', 'version = "0.0.0"', 'edition = "2021"', ""]
+    lines = ["[package]", f'name = "{name}"', 'version = "0.0.0"', 'edition = "2024"', ""]
     if name == EXPORTED:
         lines += ["[lib]", 'name = "x86_vcpu"', 'crate-type = ["cdylib"]', ""]
     lines += ["[lints.rust]", 'warnings = "allow"', "", "[dependencies]"]

@@ -1,11 +1,9 @@
 // The byte block in which the host kernel hands an exit report.
-ghost use Rattle.std.specs.Prelude.{◌≡◌, length, drop};
-ghost use Rattle.regs.specs.Registers.{of_list};
-ghost use Rattle.record.specs.Runs.{numbers};
-ghost use Rattle.blocks.specs.ReportLayout.{LENGTH, REGS};
+ghost use Rattle.std.specs.Prelude.{◌≡◌, length};
+ghost use Rattle.blocks.specs.ReportLayout.{LENGTH};
 ghost use Rattle.blocks.specs.ReportBlock.{cpuid_of, report_of, block_accepted};
 
-use record::words;
+use record::words::Stored;
 use regs::GeneralRegisters;
 use vcpu_exit::{CpuidWords, Report};
 
@@ -70,16 +68,7 @@ pub fn accepts(b: &[u8]) -> bool
     b.len() == Layout::LENGTH
 }
 
-// ---- Reading a block of the right length.
-
-fn regs_at(b: &[u8]) -> GeneralRegisters
-    requires { length b.now ≡ LENGTH }
-    ensures { result ≡ of_list (numbers 8 16 (drop REGS b.now)) }
-{
-    let mut regs = [0u64; 16];
-    words::get_all8(&mut regs, b, Layout::REGS);
-    regs::of_array(regs)
-}
+// ---- Reading a block of the right length. As in record, the length is a clause: each caller holds a slice, whose length `accepts` tested.
 
 #[tactic(auto, unfolding(crate::specs::ReportBlock::cpuid_of))]
 fn cpuid_at(b: &[u8]) -> CpuidWords
@@ -87,10 +76,10 @@ fn cpuid_at(b: &[u8]) -> CpuidWords
     ensures { result ≡ cpuid_of b.now }
 {
     CpuidWords {
-        eax: words::get4(b, Layout::CPUID_EAX),
-        ebx: words::get4(b, Layout::CPUID_EBX),
-        ecx: words::get4(b, Layout::CPUID_ECX),
-        edx: words::get4(b, Layout::CPUID_EDX),
+        eax: u32::get(b, Layout::CPUID_EAX),
+        ebx: u32::get(b, Layout::CPUID_EBX),
+        ecx: u32::get(b, Layout::CPUID_ECX),
+        edx: u32::get(b, Layout::CPUID_EDX),
     }
 }
 
@@ -100,23 +89,23 @@ pub fn report_at(b: &[u8]) -> Report
     ensures { result ≡ report_of b.now }
 {
     Report {
-        regs: regs_at(b),
-        rip: words::get8(b, Layout::RIP),
-        rsp: words::get8(b, Layout::RSP),
-        rflags: words::get8(b, Layout::RFLAGS),
-        interruptibility: words::get4(b, Layout::INTERRUPTIBILITY),
-        cr0: words::get8(b, Layout::CR0),
-        cr3: words::get8(b, Layout::CR3),
-        cr4: words::get8(b, Layout::CR4),
-        efer: words::get8(b, Layout::EFER),
-        csbase: words::get8(b, Layout::CS_BASE),
-        csrights: words::get4(b, Layout::CS_RIGHTS),
-        ssrights: words::get4(b, Layout::SS_RIGHTS),
-        reason: words::get4(b, Layout::REASON),
-        qualification: words::get8(b, Layout::QUALIFICATION),
-        length: words::get4(b, Layout::INSTRUCTION_LENGTH),
-        interruption: words::get4(b, Layout::INTERRUPTION),
-        code: words::get4(b, Layout::ERROR_CODE),
+        regs: GeneralRegisters::get(b, Layout::REGS),
+        rip: u64::get(b, Layout::RIP),
+        rsp: u64::get(b, Layout::RSP),
+        rflags: u64::get(b, Layout::RFLAGS),
+        interruptibility: u32::get(b, Layout::INTERRUPTIBILITY),
+        cr0: u64::get(b, Layout::CR0),
+        cr3: u64::get(b, Layout::CR3),
+        cr4: u64::get(b, Layout::CR4),
+        efer: u64::get(b, Layout::EFER),
+        csbase: u64::get(b, Layout::CS_BASE),
+        csrights: u32::get(b, Layout::CS_RIGHTS),
+        ssrights: u32::get(b, Layout::SS_RIGHTS),
+        reason: u32::get(b, Layout::REASON),
+        qualification: u64::get(b, Layout::QUALIFICATION),
+        length: u32::get(b, Layout::INSTRUCTION_LENGTH),
+        interruption: u32::get(b, Layout::INTERRUPTION),
+        code: u32::get(b, Layout::ERROR_CODE),
         cpuid: cpuid_at(b),
     }
 }

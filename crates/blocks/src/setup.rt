@@ -3,7 +3,7 @@ ghost use Rattle.std.specs.Prelude.{◌≡◌, length};
 ghost use Rattle.blocks.specs.SetupLayout.{LENGTH};
 ghost use Rattle.blocks.specs.SetupBlock.{host_of, addresses_of, msrs_of, features_of, arguments_of, block_accepted};
 
-use record::words;
+use record::words::Stored;
 use vcpu_setup::{Addresses, Arguments, CapabilityMsrs, Features, HostWords};
 
 // How long a block is, and where each part starts. Nothing lies between the parts, and numbers stand least significant byte first.
@@ -114,13 +114,13 @@ pub fn accepts(b: &[u8]) -> bool
     if b.len() != Layout::LENGTH {
         return false;
     }
-    let rdtscp = words::get1(b, Layout::RDTSCP);
-    let invpcid = words::get1(b, Layout::INVPCID);
-    let xsaves = words::get1(b, Layout::XSAVES);
+    let rdtscp = u8::get(b, Layout::RDTSCP);
+    let invpcid = u8::get(b, Layout::INVPCID);
+    let xsaves = u8::get(b, Layout::XSAVES);
     (rdtscp <= 1) & (invpcid <= 1) & (xsaves <= 1)
 }
 
-// ---- Reading a block of the right length.
+// ---- Reading a block of the right length. As in record, the length is a clause: each caller holds a slice, whose length `accepts` tested.
 
 #[tactic(auto, unfolding(crate::specs::SetupBlock::host_of))]
 fn host_at(b: &[u8]) -> HostWords
@@ -128,24 +128,24 @@ fn host_at(b: &[u8]) -> HostWords
     ensures { result ≡ host_of b.now }
 {
     HostWords {
-        pat: words::get8(b, Layout::HOST_PAT),
-        efer: words::get8(b, Layout::HOST_EFER),
-        cr0: words::get8(b, Layout::HOST_CR0),
-        cr3: words::get8(b, Layout::HOST_CR3),
-        cr4: words::get8(b, Layout::HOST_CR4),
-        es: words::get2(b, Layout::HOST_ES),
-        cs: words::get2(b, Layout::HOST_CS),
-        ss: words::get2(b, Layout::HOST_SS),
-        ds: words::get2(b, Layout::HOST_DS),
-        fs: words::get2(b, Layout::HOST_FS),
-        gs: words::get2(b, Layout::HOST_GS),
-        fsbase: words::get8(b, Layout::HOST_FS_BASE),
-        gsbase: words::get8(b, Layout::HOST_GS_BASE),
-        tr: words::get2(b, Layout::HOST_TR),
-        trbase: words::get8(b, Layout::HOST_TR_BASE),
-        gdtrbase: words::get8(b, Layout::HOST_GDTR_BASE),
-        idtrbase: words::get8(b, Layout::HOST_IDTR_BASE),
-        rip: words::get8(b, Layout::HOST_RIP),
+        pat: u64::get(b, Layout::HOST_PAT),
+        efer: u64::get(b, Layout::HOST_EFER),
+        cr0: u64::get(b, Layout::HOST_CR0),
+        cr3: u64::get(b, Layout::HOST_CR3),
+        cr4: u64::get(b, Layout::HOST_CR4),
+        es: u16::get(b, Layout::HOST_ES),
+        cs: u16::get(b, Layout::HOST_CS),
+        ss: u16::get(b, Layout::HOST_SS),
+        ds: u16::get(b, Layout::HOST_DS),
+        fs: u16::get(b, Layout::HOST_FS),
+        gs: u16::get(b, Layout::HOST_GS),
+        fsbase: u64::get(b, Layout::HOST_FS_BASE),
+        gsbase: u64::get(b, Layout::HOST_GS_BASE),
+        tr: u16::get(b, Layout::HOST_TR),
+        trbase: u64::get(b, Layout::HOST_TR_BASE),
+        gdtrbase: u64::get(b, Layout::HOST_GDTR_BASE),
+        idtrbase: u64::get(b, Layout::HOST_IDTR_BASE),
+        rip: u64::get(b, Layout::HOST_RIP),
     }
 }
 
@@ -155,10 +155,10 @@ fn addresses_at(b: &[u8]) -> Addresses
     ensures { result ≡ addresses_of b.now }
 {
     Addresses {
-        eptroot: words::get8(b, Layout::EPT_ROOT),
-        bitmapa: words::get8(b, Layout::IO_BITMAP_A),
-        bitmapb: words::get8(b, Layout::IO_BITMAP_B),
-        bitmapmsr: words::get8(b, Layout::MSR_BITMAPS),
+        eptroot: u64::get(b, Layout::EPT_ROOT),
+        bitmapa: u64::get(b, Layout::IO_BITMAP_A),
+        bitmapb: u64::get(b, Layout::IO_BITMAP_B),
+        bitmapmsr: u64::get(b, Layout::MSR_BITMAPS),
     }
 }
 
@@ -168,20 +168,20 @@ fn msrs_at(b: &[u8]) -> CapabilityMsrs
     ensures { result ≡ msrs_of b.now }
 {
     CapabilityMsrs {
-        basic: words::get8(b, Layout::VMX_BASIC),
-        pinbased: words::get8(b, Layout::PINBASED_CTLS),
-        procbased: words::get8(b, Layout::PROCBASED_CTLS),
-        exit: words::get8(b, Layout::EXIT_CTLS),
-        entry: words::get8(b, Layout::ENTRY_CTLS),
-        cr0fixed0: words::get8(b, Layout::CR0_FIXED0),
-        cr0fixed1: words::get8(b, Layout::CR0_FIXED1),
-        cr4fixed0: words::get8(b, Layout::CR4_FIXED0),
-        cr4fixed1: words::get8(b, Layout::CR4_FIXED1),
-        procbased2: words::get8(b, Layout::PROCBASED_CTLS2),
-        truepinbased: words::get8(b, Layout::TRUE_PINBASED_CTLS),
-        trueprocbased: words::get8(b, Layout::TRUE_PROCBASED_CTLS),
-        trueexit: words::get8(b, Layout::TRUE_EXIT_CTLS),
-        trueentry: words::get8(b, Layout::TRUE_ENTRY_CTLS),
+        basic: u64::get(b, Layout::VMX_BASIC),
+        pinbased: u64::get(b, Layout::PINBASED_CTLS),
+        procbased: u64::get(b, Layout::PROCBASED_CTLS),
+        exit: u64::get(b, Layout::EXIT_CTLS),
+        entry: u64::get(b, Layout::ENTRY_CTLS),
+        cr0fixed0: u64::get(b, Layout::CR0_FIXED0),
+        cr0fixed1: u64::get(b, Layout::CR0_FIXED1),
+        cr4fixed0: u64::get(b, Layout::CR4_FIXED0),
+        cr4fixed1: u64::get(b, Layout::CR4_FIXED1),
+        procbased2: u64::get(b, Layout::PROCBASED_CTLS2),
+        truepinbased: u64::get(b, Layout::TRUE_PINBASED_CTLS),
+        trueprocbased: u64::get(b, Layout::TRUE_PROCBASED_CTLS),
+        trueexit: u64::get(b, Layout::TRUE_EXIT_CTLS),
+        trueentry: u64::get(b, Layout::TRUE_ENTRY_CTLS),
     }
 }
 
@@ -191,9 +191,9 @@ fn features_at(b: &[u8]) -> Features
     ensures { result ≡ features_of b.now }
 {
     Features {
-        rdtscp: words::get_flag(b, Layout::RDTSCP),
-        invpcid: words::get_flag(b, Layout::INVPCID),
-        xsaves: words::get_flag(b, Layout::XSAVES),
+        rdtscp: bool::get(b, Layout::RDTSCP),
+        invpcid: bool::get(b, Layout::INVPCID),
+        xsaves: bool::get(b, Layout::XSAVES),
     }
 }
 
@@ -204,11 +204,11 @@ pub fn arguments_at(b: &[u8]) -> Arguments
 {
     Arguments {
         host: host_at(b),
-        entry: words::get8(b, Layout::ENTRY),
-        pat: words::get8(b, Layout::GUEST_PAT),
+        entry: u64::get(b, Layout::ENTRY),
+        pat: u64::get(b, Layout::GUEST_PAT),
         addresses: addresses_at(b),
         msrs: msrs_at(b),
-        xcr0supported: words::get8(b, Layout::XCR0_SUPPORTED),
+        xcr0supported: u64::get(b, Layout::XCR0_SUPPORTED),
         features: features_at(b),
     }
 }

@@ -2,12 +2,20 @@
 #![tactic(auto)]
 
 use blocks::{report, setup};
+use definitions::Refusal;
 use definitions::exit_reason::VmxExitReason;
-use record::{Record, words};
+use host_calls::{Frames, report_block};
+use record::Record;
+use record::words::Stored;
 use std::io;
-use vcpu_events::{Event, Injection};
+use vcpu_events::Event;
 use vcpu_session::Session;
 use vmcs::names::VmcsControl32;
+use x86_vcpu::report::vcpu_exit_report;
+use x86_vcpu::session::{
+    vcpu_apic_value, vcpu_entry, vcpu_inject_interrupt, vcpu_new, vcpu_queue_event,
+    vcpu_set_reg_of_index, vcpu_write_field,
+};
 
 // ---- A processor that permits all that setup asks for, and what its exits report.
 
@@ -20,264 +28,266 @@ const PIN: u64 = 0x7F_0000_0016;
 // Bit 55, by which the TRUE words are used.
 const VMX_BASIC: u64 = 0x00DA_0400_0000_0004;
 
-fn block() -> [u8; setup::Layout::LENGTH] {
-    let mut b = [0u8; setup::Layout::LENGTH];
-    words::put8(&mut b, setup::Layout::VMX_BASIC, VMX_BASIC);
-    words::put8(&mut b, setup::Layout::TRUE_PINBASED_CTLS, PIN);
-    words::put8(&mut b, setup::Layout::TRUE_PROCBASED_CTLS, ANY);
-    words::put8(&mut b, setup::Layout::PROCBASED_CTLS2, ANY);
-    words::put8(&mut b, setup::Layout::TRUE_EXIT_CTLS, ANY);
-    words::put8(&mut b, setup::Layout::TRUE_ENTRY_CTLS, ANY);
-    words::put8(&mut b, setup::Layout::CR0_FIXED1, 0xFFFF_FFFF);
-    words::put8(&mut b, setup::Layout::CR4_FIXED1, 0xFFFF_FFFF);
-    words::put8(&mut b, setup::Layout::XCR0_SUPPORTED, 7);
-    b
+fn setup_block() -> [u8; setup::Layout::LENGTH] {
+    let mut block = [0; setup::Layout::LENGTH];
+    u64::put(&mut block, setup::Layout::VMX_BASIC, VMX_BASIC);
+    u64::put(&mut block, setup::Layout::TRUE_PINBASED_CTLS, PIN);
+    u64::put(&mut block, setup::Layout::TRUE_PROCBASED_CTLS, ANY);
+    u64::put(&mut block, setup::Layout::PROCBASED_CTLS2, ANY);
+    u64::put(&mut block, setup::Layout::TRUE_EXIT_CTLS, ANY);
+    u64::put(&mut block, setup::Layout::TRUE_ENTRY_CTLS, ANY);
+    u64::put(&mut block, setup::Layout::CR0_FIXED1, 0xFFFF_FFFF);
+    u64::put(&mut block, setup::Layout::CR4_FIXED1, 0xFFFF_FFFF);
+    u64::put(&mut block, setup::Layout::XCR0_SUPPORTED, 7);
+    block
 }
 
 // An exit with this reason, interrupts on, RCX, and 3 in RAX; CR0 and CR4 are what setup left of them.
-fn exit(reason: u32, rcx: u64) -> [u8; report::Layout::LENGTH] {
-    let mut b = [0u8; report::Layout::LENGTH];
-    words::put8(&mut b, report::Layout::REGS, 3);
-    words::put8(&mut b, report::Layout::REGS + 8, rcx);
-    words::put8(&mut b, report::Layout::RFLAGS, 0x202);
-    words::put8(&mut b, report::Layout::CR0, 0x10);
-    words::put8(&mut b, report::Layout::CR4, 0x2000);
-    words::put4(&mut b, report::Layout::REASON, reason);
-    b
+fn exit_block(reason: u32, rcx: u64) -> [u8; report::Layout::LENGTH] {
+    let mut block = report_block(reason);
+    u64::put(&mut block, report::Layout::REGS, 3);
+    u64::put(&mut block, report::Layout::REGS + 8, rcx);
+    u64::put(&mut block, report::Layout::RFLAGS, 0x202);
+    u64::put(&mut block, report::Layout::CR0, 0x10);
+    u64::put(&mut block, report::Layout::CR4, 0x2000);
+    block
 }
 
-// ---- What is printed.
+// Above the reasons that a report may have.
+const UNKNOWN: u32 = 65;
 
-// The record's bytes are those of the session.
-fn is_held(bytes: &[u8; Record::LENGTH], s: Session) -> bool {
-    let mut own = [0u8; Record::LENGTH];
-    let refusal = record::encode(&mut own, s);
-    (refusal == 0) & (replay::digest_of(bytes) == replay::digest_of(&own))
+// Bit 31 of a reason, and an invalid guest state.
+const FAILED_ENTRY: u32 = 0x8000_0021;
+
+// ---- A session on both sides: the record that the exported calls change, and the session by value.
+
+#[derive(Drop)]
+struct Both {
+    bytes: [u8; Record::LENGTH],
+    session: Session,
 }
 
-// A line: the call, its number exported and by value, and whether both left the same session.
-fn print(
-    rt: &impl Print,
-    call: &str,
-    exported: u32,
-    value: u32,
-    bytes: &[u8; Record::LENGTH],
-    s: Session,
-) -> io::Result<()> {
-    let held = if is_held(bytes, s) {
-        "same"
-    } else {
-        "different"
-    };
-    println!(rt; "{call}: {exported} {value} {held}")
-}
+impl Both {
+    // The record's bytes are those of the session.
+    fn is_held(&self) -> bool {
+        let mut own = [0; Record::LENGTH];
+        record::encode(&mut own, self.session).is_ok() && own == self.bytes
+    }
 
-fn print_permitted(rt: &impl Print, s: Session) -> io::Result<()> {
-    let fields = s.vmcs;
-    let words = [
-        fields.w32[VmcsControl32::PINBASED_EXEC_CONTROLS],
-        fields.w32[VmcsControl32::PRIMARY_PROCBASED_EXEC_CONTROLS],
-        fields.w32[VmcsControl32::SECONDARY_PROCBASED_EXEC_CONTROLS],
-        fields.w32[VmcsControl32::VMEXIT_CONTROLS],
-        fields.w32[VmcsControl32::VMENTRY_CONTROLS],
-    ];
-    let permitted = u8::from(vmcs::controls::all_permitted(s.capabilities.pairs, words));
-    println!(rt; "control words permitted: {permitted}")
-}
+    // A line: the call, its number exported and by value, and whether both left the same session.
+    fn print(
+        &self,
+        rt: &impl Print,
+        call: &str,
+        exported: u32,
+        by_value: Result<(), Refusal>,
+    ) -> io::Result<()> {
+        let by_value = definitions::refusal_of(by_value);
+        let held = if self.is_held() { "same" } else { "different" };
+        println!(rt; "{call}: {exported} {by_value} {held}")
+    }
 
-// ---- The calls, each made on both sides.
+    fn print_permitted(&self, rt: &impl Print) -> io::Result<()> {
+        let fields = self.session.vmcs;
+        let words = [
+            fields.w32[VmcsControl32::PINBASED_EXEC_CONTROLS],
+            fields.w32[VmcsControl32::PRIMARY_PROCBASED_EXEC_CONTROLS],
+            fields.w32[VmcsControl32::SECONDARY_PROCBASED_EXEC_CONTROLS],
+            fields.w32[VmcsControl32::VMEXIT_CONTROLS],
+            fields.w32[VmcsControl32::VMENTRY_CONTROLS],
+        ];
+        let pairs = self.session.capabilities.pairs;
+        let permitted = u8::from(vmcs::controls::all_permitted(pairs, words));
+        println!(rt; "control words permitted: {permitted}")
+    }
 
-// A set up session, on both sides: the second setup is refused.
-fn set_up(rt: &impl Print, bytes: &mut [u8; Record::LENGTH], s: &mut Session) -> io::Result<()> {
-    let block = block();
-    let arguments = setup::arguments_at(&block);
-    let mut a = [0u8; structs::FRAME_SIZE];
-    let mut b = [0u8; structs::FRAME_SIZE];
-    let mut msr = [0u8; structs::FRAME_SIZE];
-    let exported = x86_vcpu::setup::vcpu_setup(bytes, &block, &mut a, &mut b, &mut msr);
-    let answered = vcpu_setup::setup(*s, arguments);
-    *s = answered.session;
-    print(rt, "setup", exported, answered.refusal, bytes, *s)
-}
+    // Goes on with the session that an accepted call by value gives back beside its answer.
+    fn kept<A: Drop>(&mut self, answer: Result<(A, Session), Refusal>) -> Result<A, Refusal> {
+        let (answer, session) = answer?;
+        self.session = session;
+        Ok(answer)
+    }
 
-fn queue(
-    rt: &impl Print,
-    bytes: &mut [u8; Record::LENGTH],
-    s: &mut Session,
-    e: Event,
-) -> io::Result<()> {
-    let exported = x86_vcpu::session::vcpu_queue_event(bytes, e.vector, e.coded as u8, e.code);
-    let answered = vcpu::queue_event(*s, e);
-    *s = answered.session;
-    print(rt, "queue_event", exported, answered.refusal, bytes, *s)
-}
+    // Makes a call on both sides.
+    fn call<E: FnOnce(&mut [u8]) -> u32, V: FnOnce(Session) -> Result<Session, Refusal>>(
+        &mut self,
+        rt: &impl Print,
+        call: &str,
+        exported: E,
+        by_value: V,
+    ) -> io::Result<()>
+        requires exported { E.IsAlwaysCallable exported }
+        requires by_value { V.IsAlwaysCallable by_value }
+    {
+        let number = exported(&mut self.bytes);
+        let answer = by_value(self.session).map(|session| ((), session));
+        let kept = self.kept(answer);
+        self.print(rt, call, number, kept)
+    }
 
-fn inject(
-    rt: &impl Print,
-    bytes: &mut [u8; Record::LENGTH],
-    s: &mut Session,
-    vector: u64,
-) -> io::Result<()> {
-    let exported = x86_vcpu::session::vcpu_inject_interrupt(bytes, vector);
-    let answered = vcpu::inject_interrupt(*s, vector);
-    *s = answered.session;
-    print(
-        rt,
-        "inject_interrupt",
-        exported,
-        answered.refusal,
-        bytes,
-        *s,
-    )
-}
+    // A set up session is refused a second setup.
+    fn set_up(&mut self, rt: &impl Print) -> io::Result<()> {
+        let block = setup_block();
+        let arguments = setup::arguments_at(&block);
+        self.call(
+            rt,
+            "setup",
+            |bytes| {
+                let Frames {
+                    mut a,
+                    mut b,
+                    mut msr,
+                } = Frames::new();
+                x86_vcpu::setup::vcpu_setup(bytes, &block, &mut a, &mut b, &mut msr)
+            },
+            |session| vcpu_setup::setup(session, arguments),
+        )
+    }
 
-fn write_field(
-    rt: &impl Print,
-    bytes: &mut [u8; Record::LENGTH],
-    s: &mut Session,
-    encoding: u64,
-    value: u64,
-) -> io::Result<()> {
-    let exported = x86_vcpu::session::vcpu_write_field(bytes, encoding, value);
-    let answered = vcpu::write_field(*s, encoding, value);
-    *s = answered.session;
-    print(rt, "write_field", exported, answered.refusal, bytes, *s)
-}
+    fn queue(&mut self, rt: &impl Print, event: Event) -> io::Result<()> {
+        self.call(
+            rt,
+            "queue_event",
+            |bytes| vcpu_queue_event(
+                bytes,
+                event.vector,
+                event.code.is_some() as u8,
+                event.code.unwrap_or(0),
+            ),
+            |session| vcpu::queue_event(session, event),
+        )
+    }
 
-fn set_register(
-    rt: &impl Print,
-    bytes: &mut [u8; Record::LENGTH],
-    s: &mut Session,
-    index: u64,
-    value: u64,
-) -> io::Result<()> {
-    let exported = x86_vcpu::session::vcpu_set_reg_of_index(bytes, index, value);
-    let answered = vcpu::set_register(*s, index, value);
-    *s = answered.session;
-    print(
-        rt,
-        "set_reg_of_index",
-        exported,
-        answered.refusal,
-        bytes,
-        *s,
-    )
-}
+    fn inject(&mut self, rt: &impl Print, vector: u64) -> io::Result<()> {
+        self.call(
+            rt,
+            "inject_interrupt",
+            |bytes| vcpu_inject_interrupt(bytes, vector),
+            |session| vcpu::inject_interrupt(session, vector),
+        )
+    }
 
-fn apic_value(
-    rt: &impl Print,
-    bytes: &mut [u8; Record::LENGTH],
-    s: &mut Session,
-    value: u64,
-) -> io::Result<()> {
-    let exported = x86_vcpu::session::vcpu_apic_value(bytes, value);
-    let answered = vcpu::apic_value(*s, value);
-    *s = answered.session;
-    print(rt, "apic_value", exported, answered.refusal, bytes, *s)
-}
+    fn write_field(&mut self, rt: &impl Print, encoding: u64, value: u64) -> io::Result<()> {
+        self.call(
+            rt,
+            "write_field",
+            |bytes| vcpu_write_field(bytes, encoding, value),
+            |session| vcpu::write_field(session, encoding, value),
+        )
+    }
 
-fn injection_number(injection: Injection) -> u64 {
-    match injection {
-        Injection::Empty => 0,
-        Injection::Held => 1,
-        Injection::Written => 2,
+    fn set_register(&mut self, rt: &impl Print, index: u64, value: u64) -> io::Result<()> {
+        self.call(
+            rt,
+            "set_reg_of_index",
+            |bytes| vcpu_set_reg_of_index(bytes, index, value),
+            |session| vcpu::set_register(session, index, value),
+        )
+    }
+
+    fn apic_value(&mut self, rt: &impl Print, value: u64) -> io::Result<()> {
+        self.call(
+            rt,
+            "apic_value",
+            |bytes| vcpu_apic_value(bytes, value),
+            |session| vcpu::apic_value(session, value),
+        )
+    }
+
+    // Resumed and the injection are printed too, exported and by value; by value a refused entry gives neither, and 0 is printed.
+    fn enter(&mut self, rt: &impl Print) -> io::Result<()> {
+        let mut resumed: u8 = 9;
+        let mut injection: u8 = 9;
+        let number = vcpu_entry(&mut self.bytes, 0x1000, &mut resumed, &mut injection);
+        let entered = self.kept(vcpu::entry(self.session, 0x1000));
+        self.print(rt, "entry", number, entered.map(|_| ()))?;
+        let (resumed_by_value, injection_by_value) = entered.map_or((0, 0), |answer| {
+            (u8::from(answer.resumed), u8::from(answer.injection))
+        });
+        println!(rt; "    {resumed} {resumed_by_value} {injection} {injection_by_value}")
+    }
+
+    // The first words of the answer are printed too, exported and by value; by value a refused report gives none, and 0 is printed.
+    fn exit_report(&mut self, rt: &impl Print, reason: u32, rcx: u64) -> io::Result<()> {
+        let block = exit_block(reason, rcx);
+        let mut words = [0; 8];
+        let number = vcpu_exit_report(&mut self.bytes, &block, &mut words);
+        let reported = self.kept(vcpu::exit_report(self.session, report::report_at(&block)));
+        self.print(rt, "exit_report", number, reported.map(|_| ()))?;
+        let by_value: [u64; 8] = reported.map_or([0; 8], |answer| answer.into());
+        println!(rt;
+            "    {} {} {:x} {:x}",
+            words[0], by_value[0], words[1], by_value[1]
+        )
     }
 }
 
-// An entry's results: resumed and the injection, exported and by value.
-fn print_entry(
-    rt: &impl Print,
-    resumed: u8,
-    injection: u8,
-    by_value: bool,
-    what: Injection,
-) -> io::Result<()> {
-    let resumed_by_value = u8::from(by_value);
-    let injection_by_value = injection_number(what);
-    println!(rt; "    {resumed} {resumed_by_value} {injection} {injection_by_value}")
-}
-
-fn enter(rt: &impl Print, bytes: &mut [u8; Record::LENGTH], s: &mut Session) -> io::Result<()> {
-    let mut resumed: u8 = 9;
-    let mut injection: u8 = 9;
-    let exported = x86_vcpu::session::vcpu_entry(bytes, 0x1000, &mut resumed, &mut injection);
-    let entered = vcpu::entry(*s, 0x1000);
-    *s = entered.session;
-    let what = entered.injection;
-    print(rt, "entry", exported, entered.refusal, bytes, *s)?;
-    print_entry(rt, resumed, injection, entered.resumed, what)
-}
-
-// The first words of an exit's answer, exported and by value.
-fn print_answers(rt: &impl Print, exported: [u64; 8], by_value: [u64; 8]) -> io::Result<()> {
-    println!(rt;
-        "    {} {} {:x} {:x}",
-        exported[0], by_value[0], exported[1], by_value[1]
-    )
-}
-
-fn exit_report(
-    rt: &impl Print,
-    bytes: &mut [u8; Record::LENGTH],
-    s: &mut Session,
-    reason: u32,
-    rcx: u64,
-) -> io::Result<()> {
-    let block = exit(reason, rcx);
-    let mut words = [0u64; 8];
-    let exported = x86_vcpu::report::vcpu_exit_report(bytes, &block, &mut words);
-    let reported = vcpu::exit_report(*s, report::report_at(&block));
-    *s = reported.session;
-    let answer = reported.answer;
-    print(rt, "exit_report", exported, reported.refusal, bytes, *s)?;
-    print_answers(rt, words, vcpu_answers::answer_words(answer))
-}
+// ---- The calls.
 
 const PAGE_FAULT: Event = Event {
     vector: 14,
-    coded: true,
-    code: 2,
+    code: Some(2),
 };
 
+// The MSR of the local APIC's ID.
+const X2APIC_ID: u64 = 0x802;
+
+// Encodings of fields.
+const PINBASED_EXEC_CONTROLS: u64 = 0x4000;
+
+const VMEXIT_REASON: u64 = 0x4402;
+
+const GUEST_RFLAGS: u64 = 0x6820;
+
+// Indices of registers: no register has that of RSP.
+const R15: u64 = 15;
+
+const RSP: u64 = 4;
+
 // Events queued and injected, a held one, an APIC read, an XSETBV, a failed entry, and at last pin controls that are not permitted.
-fn run(rt: &impl Print, bytes: &mut [u8; Record::LENGTH], s: &mut Session) -> io::Result<()> {
-    queue(rt, bytes, s, PAGE_FAULT)?;
-    inject(rt, bytes, s, 0x20)?;
-    inject(rt, bytes, s, 0)?;
-    inject(rt, bytes, s, 256)?;
-    apic_value(rt, bytes, s, 7)?;
-    enter(rt, bytes, s)?;
-    enter(rt, bytes, s)?;
-    exit_report(rt, bytes, s, VmxExitReason::MSR_READ, 0x802)?;
-    apic_value(rt, bytes, s, 0x1_0000_0007)?;
-    write_field(rt, bytes, s, 0x6820, 2)?;
-    write_field(rt, bytes, s, 0x4402, 2)?;
-    set_register(rt, bytes, s, 15, 5)?;
-    set_register(rt, bytes, s, 4, 5)?;
-    enter(rt, bytes, s)?;
-    exit_report(rt, bytes, s, VmxExitReason::XSETBV, 0)?;
-    enter(rt, bytes, s)?;
-    exit_report(rt, bytes, s, 65, 0)?;
-    exit_report(rt, bytes, s, 0x8000_0021, 0)?;
-    enter(rt, bytes, s)?;
-    queue(rt, bytes, s, PAGE_FAULT)?;
-    exit_report(rt, bytes, s, VmxExitReason::HLT, 0)?;
-    write_field(rt, bytes, s, 0x4000, 9)
+fn run(rt: &impl Print, both: &mut Both) -> io::Result<()> {
+    both.queue(rt, PAGE_FAULT)?;
+    both.inject(rt, 0x20)?;
+    both.inject(rt, 0)?;
+    both.inject(rt, 256)?;
+    both.apic_value(rt, 7)?;
+    both.enter(rt)?;
+    both.enter(rt)?;
+    both.exit_report(rt, VmxExitReason::MSR_READ as u32, X2APIC_ID)?;
+    both.apic_value(rt, 0x1_0000_0007)?;
+    both.write_field(rt, GUEST_RFLAGS, 2)?;
+    both.write_field(rt, VMEXIT_REASON, 2)?;
+    both.set_register(rt, R15, 5)?;
+    both.set_register(rt, RSP, 5)?;
+    both.enter(rt)?;
+    both.exit_report(rt, VmxExitReason::XSETBV as u32, 0)?;
+    both.enter(rt)?;
+    both.exit_report(rt, UNKNOWN, 0)?;
+    both.exit_report(rt, FAILED_ENTRY, 0)?;
+    both.enter(rt)?;
+    both.queue(rt, PAGE_FAULT)?;
+    both.exit_report(rt, VmxExitReason::HLT as u32, 0)?;
+    both.write_field(rt, PINBASED_EXEC_CONTROLS, 9)
 }
 
 fn main(rt: HostRuntime) -> io::Result<()> {
-    let mut bytes = [0u8; Record::LENGTH];
-    let mut a = [0u8; structs::FRAME_SIZE];
-    let mut b = [0u8; structs::FRAME_SIZE];
-    let mut msr = [0u8; structs::FRAME_SIZE];
-    let made = x86_vcpu::session::vcpu_new(&mut bytes, &mut a, &mut b, &mut msr);
+    let Frames {
+        mut a,
+        mut b,
+        mut msr,
+    } = Frames::new();
+    let mut bytes = [0; Record::LENGTH];
+    let made = vcpu_new(&mut bytes, &mut a, &mut b, &mut msr);
     let decoded = record::decode(&bytes);
-    let mut s = decoded.session;
-    print(&rt, "new", made, decoded.refusal, &bytes, s)?;
-    print_permitted(&rt, s)?;
-    set_up(&rt, &mut bytes, &mut s)?;
-    print_permitted(&rt, s)?;
-    set_up(&rt, &mut bytes, &mut s)?;
-    run(&rt, &mut bytes, &mut s)?;
-    print_permitted(&rt, s)
+    let mut both = Both {
+        bytes,
+        session: decoded.unwrap_or(vcpu_session::new()),
+    };
+    both.print(&rt, "new", made, decoded.map(|_| ()))?;
+    both.print_permitted(&rt)?;
+    both.set_up(&rt)?;
+    both.print_permitted(&rt)?;
+    both.set_up(&rt)?;
+    run(&rt, &mut both)?;
+    both.print_permitted(&rt)
 }

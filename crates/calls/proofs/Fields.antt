@@ -18,7 +18,7 @@ use Rattle.vmcs.specs.Names.VmcsHostNW as VmcsHostNW
 use Rattle.vmcs.specs.Names.VmcsReadOnly32 as VmcsReadOnly32
 use Rattle.vmcs.proofs.WriteLaws.{read_applied, sized_applied}
 use Rattle.vcpu_events.specs.Entry.{code_in, code_goes_in, word_of, code_of, with_code, with_length, injected, with_stack, window_set, vmcs_after}
-use Rattle.vcpu_events.specs.declared.Event as Core
+use Rattle.vcpu_events.specs.Queue.{Event}
 use Rattle.vcpu_events.specs.declared.Injection.{Injection}
 use Rattle.vcpu_events.specs.declared.Injection.TheVariants.{Empty, Held, Written}
 use Rattle.vcpu_report.specs.Laws.{one_of}
@@ -44,15 +44,15 @@ module _ (P : Vmcs → Type 0) (Other : Field → Type 0) (kept : (v : Vmcs) (g 
   unfolding with_stack
   stack_keeps v launched stack o p = cond_all P launched _ _ (λ _. p) (λ _. kept v VmcsHostNW.RSP stack o p)
 
-  code_keeps : (v : Vmcs) (e : Core.Event) → Other VmcsControl32.VMENTRY_EXCEPTION_ERR_CODE → P v → P (with_code v e)
+  code_keeps : (v : Vmcs) (e : Event) → Other VmcsControl32.VMENTRY_EXCEPTION_ERR_CODE → P v → P (with_code v e)
   unfolding with_code
   code_keeps v e o p = cond_all P (code_goes_in v e) _ _ (λ _. kept v VmcsControl32.VMENTRY_EXCEPTION_ERR_CODE _ o p) (λ _. p)
 
-  length_keeps : (v : Vmcs) (e : Core.Event) → Other VmcsControl32.VMENTRY_INSTRUCTION_LEN → P v → P (with_length v e)
+  length_keeps : (v : Vmcs) (e : Event) → Other VmcsControl32.VMENTRY_INSTRUCTION_LEN → P v → P (with_length v e)
   unfolding with_length
   length_keeps v e o p = cond_all P (is_soft (from_vector e.vector)) _ _ (λ _. kept v VmcsControl32.VMENTRY_INSTRUCTION_LEN _ o p) (λ _. p)
 
-  pub injection_keeps : (v : Vmcs) (e : Core.Event) → Other VmcsControl32.VMENTRY_EXCEPTION_ERR_CODE → Other VmcsControl32.VMENTRY_INSTRUCTION_LEN
+  pub injection_keeps : (v : Vmcs) (e : Event) → Other VmcsControl32.VMENTRY_EXCEPTION_ERR_CODE → Other VmcsControl32.VMENTRY_INSTRUCTION_LEN
       → Other VmcsControl32.VMENTRY_INTERRUPTION_INFO_FIELD → P v → P (injected v e)
   unfolding injected
   injection_keeps v e a b c p = kept _ VmcsControl32.VMENTRY_INTERRUPTION_INFO_FIELD _ c (length_keeps (with_code v e) e b (code_keeps v e a p))
@@ -73,13 +73,13 @@ module _ (f : Field) (h : place_of f < size_of f) where
   unfolding window_set
   same_window v s e = same_put v v VmcsControl32.PRIMARY_PROCBASED_EXEC_CONTROLS _ e (record { sized = s; value = refl })
 
-  pub same_code : (v : Vmcs) (e : Core.Event) → Sized v → same_field VmcsControl32.VMENTRY_EXCEPTION_ERR_CODE f ≡ false → Same f v (with_code v e)
+  pub same_code : (v : Vmcs) (e : Event) → Sized v → same_field VmcsControl32.VMENTRY_EXCEPTION_ERR_CODE f ≡ false → Same f v (with_code v e)
   same_code v e s a = code_keeps (Same f v) (λ g. same_field g f ≡ false) (same_put v) v e a (record { sized = s; value = refl })
 
-  pub same_length_lem : (v w : Vmcs) (e : Core.Event) → same_field VmcsControl32.VMENTRY_INSTRUCTION_LEN f ≡ false → Same f v w → Same f v (with_length w e)
+  pub same_length_lem : (v w : Vmcs) (e : Event) → same_field VmcsControl32.VMENTRY_INSTRUCTION_LEN f ≡ false → Same f v w → Same f v (with_length w e)
   same_length_lem v w e a z = length_keeps (Same f v) (λ g. same_field g f ≡ false) (same_put v) w e a z
 
-  pub same_injected : (v : Vmcs) (e : Core.Event) → Sized v → same_field VmcsControl32.VMENTRY_EXCEPTION_ERR_CODE f ≡ false
+  pub same_injected : (v : Vmcs) (e : Event) → Sized v → same_field VmcsControl32.VMENTRY_EXCEPTION_ERR_CODE f ≡ false
       → same_field VmcsControl32.VMENTRY_INSTRUCTION_LEN f ≡ false
       → same_field VmcsControl32.VMENTRY_INTERRUPTION_INFO_FIELD f ≡ false → Same f v (injected v e)
   same_injected v e s a b c = injection_keeps (Same f v) (λ g. same_field g f ≡ false) (same_put v) v e a b c (record { sized = s; value = refl })
@@ -95,7 +95,7 @@ entry_fields =
     ∷ []
 
 -- every other field is as it was
-pub same_entered : (f : Field) → place_of f < size_of f → (v : Vmcs) (launched : Bool) (stack : ℕ) (e : Core.Event) (a : Injection) → Sized v
+pub same_entered : (f : Field) → place_of f < size_of f → (v : Vmcs) (launched : Bool) (stack : ℕ) (e : Event) (a : Injection) → Sized v
     → one_of entry_fields f ≡ false → Same f v (vmcs_after (with_stack v launched stack) e a)
 unfolding vmcs_after window_set
 same_entered f h v launched stack e a s other =
@@ -119,7 +119,7 @@ same_entered f h v launched stack e a s other =
 abbrev info : Field
 info = VmcsControl32.VMENTRY_INTERRUPTION_INFO_FIELD
 
-module _ (v : Vmcs) (e : Core.Event) (s : Sized v) where
+module _ (v : Vmcs) (e : Event) (s : Sized v) where
   coded_sized : Sized (with_code v e)
   coded_sized = (same_code VmcsReadOnly32.VMEXIT_INSTRUCTION_LEN (lit< tt) v e s refl).sized
 
@@ -170,7 +170,7 @@ module _ (v : Vmcs) (e : Core.Event) (s : Sized v) where
       go false = refl
 
 -- the word that an entry leaves where it writes the front is that of the fields before it: it does not write CR0
-pub entered_word : (v : Vmcs) (launched : Bool) (stack : ℕ) (e : Core.Event) → Sized v → value_of (vmcs_after (with_stack v launched stack) e Written) info ≡ word_of v e
+pub entered_word : (v : Vmcs) (launched : Bool) (stack : ℕ) (e : Event) → Sized v → value_of (vmcs_after (with_stack v launched stack) e Written) info ≡ word_of v e
 unfolding vmcs_after
 entered_word v launched stack e s =
     let z = same_stack VmcsGuestNW.CR0 (lit< tt) v launched stack s refl in

@@ -14,7 +14,7 @@ use Rattle.bits.proofs.Tells.{cond_all}
 use Rattle.definitions.specs.Interruption.{is_soft, from_vector}
 use Rattle.definitions.proofs.EventLaws.{event_bits}
 use Rattle.regs.specs.Registers.{with_reg, with_reg_of_index}
-use Rattle.regs.specs.declared.RegWritten.{RegWritten}
+use Rattle.regs.specs.Registers.{RegWritten}
 use Rattle.vmcs.specs.Field.{value_of}
 use Rattle.vmcs.specs.Fields.{position_of, field_of, greatest_of, read_only, vmcs_write}
 use Rattle.vmcs.specs.Named.{encodings}
@@ -22,7 +22,7 @@ use Rattle.vmcs.specs.Names.VmcsControl32 as VmcsControl32
 use Rattle.vmcs.specs.Names.VmcsHostNW as VmcsHostNW
 use Rattle.vmcs.specs.Names.VmcsReadOnly32 as VmcsReadOnly32
 use Rattle.vmcs.specs.declared.Vmcs.{Vmcs}
-use Rattle.vmcs.specs.declared.Written.{Written as FieldsWritten}
+use Rattle.vmcs.specs.Fields.{Written as FieldsWritten}
 use Rattle.vmcs.proofs.FieldLaws.{fits_field}
 use Rattle.vcpu_session.specs.Session.{LAST_ENTRY, is_unlawful, Lawful}
 use Rattle.vcpu_session.specs.declared.Session.{Session}
@@ -30,9 +30,8 @@ use Rattle.vcpu_events.specs.Queue as Queue
 use Rattle.vcpu_events.specs.Queue.{pushed, popped, front_of}
 use Rattle.vcpu_events.specs.Entry as Entry
 use Rattle.vcpu_events.specs.Entry.{injection_of, after_entry, progress_after, queue_after, vmcs_after, with_stack, window_set, code_goes_in, word_of, code_of, with_code, with_length, injected}
-use Rattle.vcpu_events.specs.declared.Event as Core
-use Rattle.vcpu_events.specs.declared.Answered.{Answered}
-use Rattle.vcpu_events.specs.declared.Entered.{Entered}
+use Rattle.vcpu_events.specs.Queue.{Answered}
+use Rattle.vcpu_events.specs.Entry.{Entered}
 use Rattle.vcpu_events.specs.declared.Injection.{Injection}
 use Rattle.vcpu_events.specs.declared.Injection.TheVariants.{Empty, Held, Written}
 use Rattle.vcpu_events.specs.Access as Access
@@ -62,7 +61,7 @@ stack_fits : (v : Vmcs) (launched : Bool) (stack : ℕ) → stack < 2 ^ 64 → V
 unfolding with_stack
 stack_fits v launched stack h m = cond_all VmcsFits launched _ _ (λ _. m) (λ _. put_fits m VmcsHostNW.RSP stack h)
 
-code_fits : (v : Vmcs) (e : Core.Event) → e.code < 2 ^ 32 → VmcsFits v → VmcsFits (with_code v e)
+code_fits : (v : Vmcs) (e : Queue.Event) → e.code < 2 ^ 32 → VmcsFits v → VmcsFits (with_code v e)
 unfolding with_code code_of
 code_fits v e h m =
     cond_all VmcsFits (code_goes_in v e) _ _
@@ -70,13 +69,13 @@ code_fits v e h m =
     (cond_all (λ (x : ℕ). x < 2 ^ 32) e.coded _ _ (λ _. h) (λ _. value_fits v VmcsReadOnly32.VMEXIT_INTERRUPTION_ERR_CODE m)))
     (λ _. m)
 
-length_fits : (v : Vmcs) (e : Core.Event) → VmcsFits v → VmcsFits (with_length v e)
+length_fits : (v : Vmcs) (e : Queue.Event) → VmcsFits v → VmcsFits (with_length v e)
 unfolding with_length
 length_fits v e m =
     cond_all VmcsFits (is_soft (from_vector e.vector)) _ _
     (λ _. put_fits m VmcsControl32.VMENTRY_INSTRUCTION_LEN _ (value_fits v VmcsReadOnly32.VMEXIT_INSTRUCTION_LEN m)) (λ _. m)
 
-injected_fits : (v : Vmcs) (e : Core.Event) → e.vector < 256 → e.code < 2 ^ 32 → VmcsFits v → VmcsFits (injected v e)
+injected_fits : (v : Vmcs) (e : Queue.Event) → e.vector < 256 → e.code < 2 ^ 32 → VmcsFits v → VmcsFits (injected v e)
 unfolding injected
 injected_fits v e h k m =
     put_fits (length_fits (with_code v e) e (code_fits v e k m)) VmcsControl32.VMENTRY_INTERRUPTION_INFO_FIELD (word_of v e)
@@ -91,7 +90,7 @@ window_fits v m =
 module _ (s : Session) (h : Sound s) where
   -- ---- queueing
 
-  pushed_fits : (e : Core.Event) → e.vector < 2 ^ 8 → e.code < 2 ^ 32 → s.queue.waiting < 64 → QueueFits (pushed s.queue e)
+  pushed_fits : (e : Queue.Event) → e.vector < 2 ^ 8 → e.code < 2 ^ 32 → s.queue.waiting < 64 → QueueFits (pushed s.queue e)
   unfolding pushed
   pushed_fits e v k lt =
       let q = h.fits.queue in
@@ -103,7 +102,7 @@ module _ (s : Session) (h : Sound s) where
             (cond_all (λ (x : ℕ). x < 2 ^ 32) e.coded _ _ (λ _. k) (λ _. lit< tt));
       }
 
-  event_fits : (e : Core.Event) → e.vector < 2 ^ 8 → e.code < 2 ^ 32 → Fitting (Queue.queue_event s e).session
+  event_fits : (e : Queue.Event) → e.vector < 2 ^ 8 → e.code < 2 ^ 32 → Fitting (Queue.queue_event s e).session
   unfolding Queue.queue_event
   event_fits e v k =
       cond_all P (is_unlawful s) _ _ (λ _. h.fits)

@@ -11,9 +11,8 @@ use Rattle.vcpu_session.specs.declared.Session.{Session}
 use Rattle.vcpu_session.proofs.LawfulLaws.{lawful_alike, lawful_phase, lawful_queue}
 use Rattle.vcpu_events.specs.Queue.{answered, pushed, queue_event, inject_interrupt}
 use Rattle.vcpu_events.specs.Entry.{injection_of, refused_entry, entry}
-use Rattle.vcpu_events.specs.declared.Answered.{Answered}
-use Rattle.vcpu_events.specs.declared.Entered.{Entered}
-use Rattle.vcpu_events.specs.declared.Event.{Event}
+use Rattle.vcpu_events.specs.Queue.{Event, Answered}
+use Rattle.vcpu_events.specs.Entry.{Entered}
 use Rattle.vcpu_events.specs.Access.{write_field, set_register, apic_value}
 use Rattle.vcpu_events.proofs.EntryLaws.{after_entry_lawful}
 use Rattle.call_specs.specs.Records.{queue_step}

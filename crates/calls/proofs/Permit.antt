@@ -13,7 +13,7 @@ use Rattle.bits.proofs.BitLaws.{bit_of_zero}
 use Rattle.bits.proofs.Tells.{both_false, cond_all}
 use Rattle.bits.proofs.WordLaws.{and_l, and_r}
 use Rattle.regs.specs.Registers.{with_reg_of_index}
-use Rattle.regs.specs.declared.RegWritten.{RegWritten}
+use Rattle.regs.specs.Registers.{RegWritten}
 use Rattle.vmcs.specs.Control.{pair_at}
 use Rattle.vmcs.specs.Cr.{first_cr0}
 use Rattle.vmcs.specs.Field.{Field, put}
@@ -24,7 +24,7 @@ use Rattle.vmcs.specs.Names.VmcsControlNW as VmcsControlNW
 use Rattle.vmcs.specs.Names.VmcsGuestNW as VmcsGuestNW
 use Rattle.vmcs.specs.Writes.{◌≔◌}
 use Rattle.vmcs.specs.declared.Vmcs.{Vmcs}
-use Rattle.vmcs.specs.declared.Written.{Written as FieldsWritten}
+use Rattle.vmcs.specs.Fields.{Written as FieldsWritten}
 use Rattle.vcpu_session.specs.Session.{LAST_ENTRY, is_unlawful}
 use Rattle.vcpu_session.specs.declared.Capabilities.{Capabilities}
 use Rattle.vcpu_session.specs.declared.Session.{Session}
@@ -32,9 +32,8 @@ use Rattle.vcpu_events.specs.Queue as Queue
 use Rattle.vcpu_events.specs.Queue.{front_of}
 use Rattle.vcpu_events.specs.Entry as Entry
 use Rattle.vcpu_events.specs.Entry.{injection_of, after_entry, vmcs_after, with_stack, window_word, window_set}
-use Rattle.vcpu_events.specs.declared.Event as Core
-use Rattle.vcpu_events.specs.declared.Answered.{Answered}
-use Rattle.vcpu_events.specs.declared.Entered.{Entered}
+use Rattle.vcpu_events.specs.Queue.{Answered}
+use Rattle.vcpu_events.specs.Entry.{Entered}
 use Rattle.vcpu_events.specs.declared.Injection.{Injection}
 use Rattle.vcpu_events.specs.declared.Injection.TheVariants.{Empty, Held, Written}
 use Rattle.vcpu_events.specs.Access as Access
@@ -111,7 +110,7 @@ module _ (c : Capabilities) where
   window_kept v k =
       kept_by c (VmcsControl32.PRIMARY_PROCBASED_EXEC_CONTROLS ≔ window_word v true ∷ []) v k.sized (search (aside_set 2 _ _ _ k.words.primary))
 
-  entry_kept : (v : Vmcs) (launched : Bool) (stack : ℕ) (e : Core.Event) (a : Injection) → SoundFields c v
+  entry_kept : (v : Vmcs) (launched : Bool) (stack : ℕ) (e : Queue.Event) (a : Injection) → SoundFields c v
       → SoundFields c (vmcs_after (with_stack v launched stack) e a)
   unfolding vmcs_after
   entry_kept v launched stack e a k = go a (stack_keeps (SoundFields c) (NoneOf judged_fields) put_kept_lem v launched stack tt k)
@@ -147,7 +146,7 @@ module _ (c : Capabilities) where
       P : Entered → Type 0
       P a = Kept c a.session
 
-  queue_kept : (s : Session) (e : Core.Event) → Kept c s → Kept c (Queue.queue_event s e).session
+  queue_kept : (s : Session) (e : Queue.Event) → Kept c s → Kept c (Queue.queue_event s e).session
   unfolding Queue.queue_event
   queue_kept s e k =
       cond_all Leaves (is_unlawful s) _ _ (λ _. k)

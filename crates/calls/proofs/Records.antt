@@ -14,22 +14,21 @@ use Rattle.vcpu_events.specs.Queue as Queue
 use Rattle.vcpu_events.specs.Queue.{answered}
 use Rattle.vcpu_events.specs.Entry as Entry
 use Rattle.vcpu_events.specs.Entry.{injection_number}
-use Rattle.vcpu_events.specs.declared.Answered.{Answered}
-use Rattle.vcpu_events.specs.declared.Entered.{Entered}
+use Rattle.vcpu_events.specs.Queue.{Answered}
+use Rattle.vcpu_events.specs.Entry.{Entered}
 use Rattle.vcpu_events.specs.declared.Injection.{Injection}
 use Rattle.vcpu_events.specs.declared.Injection.TheVariants.{Empty, Held, Written}
 use Rattle.vcpu_events.specs.Access as Access
 use Rattle.vcpu_setup.specs.Bitmaps.{io_bitmap_set, msr_bitmap_set}
 use Rattle.vcpu_setup.specs.Setup.{setup_of}
 use Rattle.blocks.specs.SetupBlock.{arguments_of}
-use Rattle.record.specs.Codec.{session_of, encode_of, accepted_of, Encoded}
+use Rattle.record.specs.Codec.{session_of, encode_of, accepted_of, Decoded, Encoded}
 use Rattle.record.specs.Fitting.{Fitting}
-use Rattle.record.specs.declared.Decoded.{Decoded}
 use Rattle.record.proofs.RoundTrip.{lawful_accepted, accepted_decoded, refused_decoded, decode_encode, faithful}
 use Rattle.call_specs.specs.Records.{call_of, queue_step, EntryCall, entry_call, entry_answer, FramesCall, frames_call}
 use Rattle.vcpu_answers.specs.Answer.{answer_words}
 use Rattle.vcpu_report.specs.ExitReport as Exit
-use Rattle.vcpu_report.specs.declared.Reported.{Reported}
+use Rattle.vcpu_report.specs.ExitReport.{Reported}
 use Rattle.blocks.specs.ReportBlock as Report
 use Rattle.blocks.specs.ReportBlock.{report_of}
 use Rattle.call_specs.specs.ReportCall.{ReportCall, report_answer, report_accepts, report_call}

@@ -27,7 +27,7 @@ use Rattle.vmcs.specs.Names.VmcsGuest32 as VmcsGuest32
 use Rattle.vmcs.specs.Names.VmcsGuestNW as VmcsGuestNW
 use Rattle.vmcs.specs.Writes.{◌≔◌}
 use Rattle.vmcs.specs.declared.Vmcs.{Vmcs}
-use Rattle.vmcs.specs.declared.controls.EferUpdate.{EferUpdate}
+use Rattle.vmcs.specs.Efer.{EferUpdate}
 use Rattle.vmcs.specs.declared.controls.Pair.{Pair}
 use Rattle.vcpu_session.specs.declared.Capabilities.{Capabilities}
 use Rattle.vcpu_session.specs.declared.Fixed.{Fixed}
@@ -45,7 +45,7 @@ use Rattle.vcpu_report.specs.Handlers.{report_writes, stored, failure_writes, fa
 use Rattle.blocks.specs.ReportLayout as Layout
 use Rattle.blocks.specs.ReportBlock.{cpuid_of, report_of}
 use Rattle.vcpu_report.specs.ExitReport.{registers_after, xcr0_after, failed_entry, after_exit, accepted, exit_report}
-use Rattle.vcpu_report.specs.declared.Reported.{Reported}
+use Rattle.vcpu_report.specs.ExitReport.{Reported}
 use Rattle.vcpu_report.proofs.ReportLaws.{phase_known}
 use Rattle.record.specs.Runs.{All, Numbers, read_all, numbers}
 use Rattle.record.specs.Fitting.{Fitting, VmcsFits, PairFits, FixedFits, CapabilitiesFit, Xcr0Fits}

@@ -21,7 +21,7 @@ use Rattle.definitions.specs.Interruption.{type_number, type_numbered, type_of}
 use Rattle.vmcs.specs.Efer.{is_long_mode, lacks_ia32e, update_efer}
 use Rattle.vmcs.specs.Field.{value_of}
 use Rattle.vmcs.specs.Names.VmcsControl32 as VmcsControl32
-use Rattle.vmcs.specs.declared.controls.EferUpdate.{EferUpdate}
+use Rattle.vmcs.specs.Efer.{EferUpdate}
 use Rattle.vmcs.specs.declared.controls.Pair.{Pair}
 use Rattle.vcpu_session.specs.Session.{Lawful}
 use Rattle.vcpu_session.specs.declared.Xcr0.{Xcr0}

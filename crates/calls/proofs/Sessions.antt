@@ -11,8 +11,8 @@ use Rattle.vcpu_session.specs.declared.Session.{Session}
 use Rattle.vcpu_events.specs.Queue as Queue
 use Rattle.vcpu_events.specs.Queue.{answered}
 use Rattle.vcpu_events.specs.Entry as Entry
-use Rattle.vcpu_events.specs.declared.Answered.{Answered}
-use Rattle.vcpu_events.specs.declared.Entered.{Entered}
+use Rattle.vcpu_events.specs.Queue.{Answered}
+use Rattle.vcpu_events.specs.Entry.{Entered}
 use Rattle.vcpu_events.specs.declared.Injection.TheVariants.{Empty}
 use Rattle.vcpu_events.specs.Access as Access
 use Rattle.vcpu_setup.specs.Setup.{setup_of}

@@ -27,11 +27,11 @@ use Rattle.vmcs.specs.Names.VmcsGuest32 as VmcsGuest32
 use Rattle.vmcs.specs.Names.VmcsGuestNW as VmcsGuestNW
 use Rattle.vmcs.specs.Names.VmcsHostNW as VmcsHostNW
 use Rattle.vmcs.specs.Names.VmcsReadOnly32 as VmcsReadOnly32
-use Rattle.vmcs.specs.declared.Written.{Written as FieldsWritten}
+use Rattle.vmcs.specs.Fields.{Written as FieldsWritten}
 use Rattle.vmcs.proofs.TableTest.{table}
 use Rattle.vmcs.proofs.WidthLaws.{greatest_by_bits}
 use Rattle.regs.specs.Registers.{with_reg_of_index}
-use Rattle.regs.specs.declared.RegWritten.{RegWritten}
+use Rattle.regs.specs.Registers.{RegWritten}
 use Rattle.vcpu_session.specs.Session.{LAST_ENTRY, Lawful, with_vmcs, with_queue}
 use Rattle.vcpu_session.specs.declared.Xcr0.{Xcr0}
 use Rattle.vcpu_session.specs.declared.Session.{Session}
@@ -40,9 +40,8 @@ use Rattle.vcpu_events.specs.Queue as Queue
 use Rattle.vcpu_events.specs.Queue.{answered, pushed, popped, front_of}
 use Rattle.vcpu_events.specs.Entry as Entry
 use Rattle.vcpu_events.specs.Entry.{injection_of, code_in, after_entry, progress_after, queue_after, vmcs_after, window_set, with_stack}
-use Rattle.vcpu_events.specs.declared.Event as Core
-use Rattle.vcpu_events.specs.declared.Answered.{Answered}
-use Rattle.vcpu_events.specs.declared.Entered.{Entered}
+use Rattle.vcpu_events.specs.Queue.{Answered}
+use Rattle.vcpu_events.specs.Entry.{Entered}
 use Rattle.vcpu_events.specs.declared.Injection.{Injection}
 use Rattle.vcpu_events.specs.declared.Injection.TheVariants.{Empty, Held, Written}
 use Rattle.vcpu_events.specs.Access as Access
@@ -56,7 +55,7 @@ use Rattle.vcpu_setup.specs.Laws.{Typed, SetUp}
 use Rattle.vcpu_setup.specs.Words.{setup_words}
 use Rattle.vcpu_setup.proofs.SetupLaws.{set_up_lem, setup_number, refused_keeps}
 use Rattle.vcpu_exit.specs.Refusal.{report_refusal}
-use Rattle.vcpu_report.specs.declared.Reported.{Reported}
+use Rattle.vcpu_report.specs.ExitReport.{Reported}
 use Rattle.vcpu_exit.specs.declared.Report.{Report}
 use Rattle.vcpu_exit.proofs.Passes.{passes}
 use Rattle.vcpu_report.specs.ExitReport as Exit
@@ -137,7 +136,7 @@ module _ (t : Tally Event) (s : Session) (c : Call) where
       }
 
   -- accepted, with the event e queued last
-  queues_last : (e : Core.Event) → Sound s → ((a : Injection) (w : List Event) → move_by c a w ≡ queues (event_of e.vector e.coded e.code))
+  queues_last : (e : Queue.Event) → Sound s → ((a : Injection) (w : List Event) → move_by c a w ≡ queues (event_of e.vector e.coded e.code))
       → words_by (view_of t s) c ≡ words_of s → s.queue.waiting < 64 → Refuses (own_rules (view_of t s) c) 0
       → Stepped t s c (left (answered 0 (with_queue s (pushed s.queue e))))
   unfolding pushed
@@ -270,7 +269,7 @@ pending_long s h =
 
 module _ (t : Tally Event) (s : Session) (h : Sound s) where
   -- the last number, and acceptance
-  queue_tail : (c : Call) (e : Core.Event) → ((a : Injection) (w : List Event) → move_by c a w ≡ queues (event_of e.vector e.coded e.code))
+  queue_tail : (c : Call) (e : Queue.Event) → ((a : Injection) (w : List Event) → move_by c a w ≡ queues (event_of e.vector e.coded e.code))
       → words_by (view_of t s) c ≡ words_of s
       → ((n : ℕ) → Refuses (by 13 (64 ≤ length (waiting_of s)) ∷ []) n → Refuses (own_rules (view_of t s) c) n)
       → Stepped t s c (left (cond (leb 64 s.queue.waiting) (answered 13 s) (answered 0 (with_queue s (pushed s.queue e)))))
@@ -358,7 +357,7 @@ front_waits s h some-wait =
     events_front q.waiting q.vectors q.coded q.codes (sound_alike s h) some-wait (omega (arith, h.fits.queue.vectors.sized))
 
 -- host RSP is what the stack left: an injection and the window write other fields
-stack_kept : (v : Vmcs) (e : Core.Event) (a : Injection) → Sized v → value_of (vmcs_after v e a) VmcsHostNW.RSP ≡ value_of v VmcsHostNW.RSP
+stack_kept : (v : Vmcs) (e : Queue.Event) (a : Injection) → Sized v → value_of (vmcs_after v e a) VmcsHostNW.RSP ≡ value_of v VmcsHostNW.RSP
 unfolding vmcs_after
 stack_kept v e Empty z = refl
 stack_kept v e Held z = (same_window VmcsHostNW.RSP (lit< tt) v z refl).value

@@ -1,1 +1,2 @@
 pub mod EventLaws
+pub mod RefusalLaws

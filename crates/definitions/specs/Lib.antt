@@ -3,3 +3,4 @@ pub mod VmxExitReason
 pub mod ExitReasons
 pub mod Irq
 pub mod Interruption
+pub mod Refusals

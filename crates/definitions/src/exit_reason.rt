@@ -1,215 +1,213 @@
 // The basic exit reasons (SDM 3D, appendix C) by their names in definitions.rs.
-// Ported from the enum VmxExitReason of x86_vcpu src/vmx/definitions.rs (Copyright 2025 The Axvisor Team, Apache-2.0). Changed: the reasons are numbers.
+// Ported from the enum VmxExitReason of x86_vcpu src/vmx/definitions.rs (Copyright 2025 The Axvisor Team, Apache-2.0). Changed: reserved numbers have no name.
 ghost use Rattle.std.specs.Prelude.{◌≡◌};
 ghost use Rattle.definitions.specs.ExitReasons.{exit_reasons};
 
-#[derive(Drop)]
-pub struct VmxExitReason {}
+#[derive(Clone, Copy, Debug, PartialEq, Eq, Hash)]
+pub enum VmxExitReason {
+    EXCEPTION_NMI = 0,
 
-impl VmxExitReason {
-    pub const EXCEPTION_NMI: u32 = 0;
+    EXTERNAL_INTERRUPT = 1,
 
-    pub const EXTERNAL_INTERRUPT: u32 = 1;
+    TRIPLE_FAULT = 2,
 
-    pub const TRIPLE_FAULT: u32 = 2;
+    INIT = 3,
 
-    pub const INIT: u32 = 3;
+    SIPI = 4,
 
-    pub const SIPI: u32 = 4;
+    SMI = 5,
 
-    pub const SMI: u32 = 5;
+    OTHER_SMI = 6,
 
-    pub const OTHER_SMI: u32 = 6;
+    INTERRUPT_WINDOW = 7,
 
-    pub const INTERRUPT_WINDOW: u32 = 7;
+    NMI_WINDOW = 8,
 
-    pub const NMI_WINDOW: u32 = 8;
+    TASK_SWITCH = 9,
 
-    pub const TASK_SWITCH: u32 = 9;
+    CPUID = 10,
 
-    pub const CPUID: u32 = 10;
+    GETSEC = 11,
 
-    pub const GETSEC: u32 = 11;
+    HLT = 12,
 
-    pub const HLT: u32 = 12;
+    INVD = 13,
 
-    pub const INVD: u32 = 13;
+    INVLPG = 14,
 
-    pub const INVLPG: u32 = 14;
+    RDPMC = 15,
 
-    pub const RDPMC: u32 = 15;
+    RDTSC = 16,
 
-    pub const RDTSC: u32 = 16;
+    RSM = 17,
 
-    pub const RSM: u32 = 17;
+    VMCALL = 18,
 
-    pub const VMCALL: u32 = 18;
+    VMCLEAR = 19,
 
-    pub const VMCLEAR: u32 = 19;
+    VMLAUNCH = 20,
 
-    pub const VMLAUNCH: u32 = 20;
+    VMPTRLD = 21,
 
-    pub const VMPTRLD: u32 = 21;
+    VMPTRST = 22,
 
-    pub const VMPTRST: u32 = 22;
+    VMREAD = 23,
 
-    pub const VMREAD: u32 = 23;
+    VMRESUME = 24,
 
-    pub const VMRESUME: u32 = 24;
+    VMWRITE = 25,
 
-    pub const VMWRITE: u32 = 25;
+    VMOFF = 26,
 
-    pub const VMOFF: u32 = 26;
+    VMON = 27,
 
-    pub const VMON: u32 = 27;
+    CR_ACCESS = 28,
 
-    pub const CR_ACCESS: u32 = 28;
+    DR_ACCESS = 29,
 
-    pub const DR_ACCESS: u32 = 29;
+    IO_INSTRUCTION = 30,
 
-    pub const IO_INSTRUCTION: u32 = 30;
+    MSR_READ = 31,
 
-    pub const MSR_READ: u32 = 31;
+    MSR_WRITE = 32,
 
-    pub const MSR_WRITE: u32 = 32;
+    INVALID_GUEST_STATE = 33,
 
-    pub const INVALID_GUEST_STATE: u32 = 33;
+    MSR_LOAD_FAIL = 34,
 
-    pub const MSR_LOAD_FAIL: u32 = 34;
+    MWAIT_INSTRUCTION = 36,
 
-    pub const MWAIT_INSTRUCTION: u32 = 36;
+    MONITOR_TRAP_FLAG = 37,
 
-    pub const MONITOR_TRAP_FLAG: u32 = 37;
+    MONITOR_INSTRUCTION = 39,
 
-    pub const MONITOR_INSTRUCTION: u32 = 39;
+    PAUSE_INSTRUCTION = 40,
 
-    pub const PAUSE_INSTRUCTION: u32 = 40;
+    MCE_DURING_VMENTRY = 41,
 
-    pub const MCE_DURING_VMENTRY: u32 = 41;
+    TPR_BELOW_THRESHOLD = 43,
 
-    pub const TPR_BELOW_THRESHOLD: u32 = 43;
+    APIC_ACCESS = 44,
 
-    pub const APIC_ACCESS: u32 = 44;
+    VIRTUALIZED_EOI = 45,
 
-    pub const VIRTUALIZED_EOI: u32 = 45;
+    GDTR_IDTR = 46,
 
-    pub const GDTR_IDTR: u32 = 46;
+    LDTR_TR = 47,
 
-    pub const LDTR_TR: u32 = 47;
+    EPT_VIOLATION = 48,
 
-    pub const EPT_VIOLATION: u32 = 48;
+    EPT_MISCONFIG = 49,
 
-    pub const EPT_MISCONFIG: u32 = 49;
+    INVEPT = 50,
 
-    pub const INVEPT: u32 = 50;
+    RDTSCP = 51,
 
-    pub const RDTSCP: u32 = 51;
+    PREEMPTION_TIMER = 52,
 
-    pub const PREEMPTION_TIMER: u32 = 52;
+    INVVPID = 53,
 
-    pub const INVVPID: u32 = 53;
+    WBINVD = 54,
 
-    pub const WBINVD: u32 = 54;
+    XSETBV = 55,
 
-    pub const XSETBV: u32 = 55;
+    APIC_WRITE = 56,
 
-    pub const APIC_WRITE: u32 = 56;
+    RDRAND = 57,
 
-    pub const RDRAND: u32 = 57;
+    INVPCID = 58,
 
-    pub const INVPCID: u32 = 58;
+    VMFUNC = 59,
 
-    pub const VMFUNC: u32 = 59;
+    ENCLS = 60,
 
-    pub const ENCLS: u32 = 60;
+    RDSEED = 61,
 
-    pub const RDSEED: u32 = 61;
+    PML_FULL = 62,
 
-    pub const PML_FULL: u32 = 62;
+    XSAVES = 63,
 
-    pub const XSAVES: u32 = 63;
+    XRSTORS = 64,
 
-    pub const XRSTORS: u32 = 64;
+    PCONFIG = 65,
 
-    pub const PCONFIG: u32 = 65;
+    SPP_EVENT = 66,
 
-    pub const SPP_EVENT: u32 = 66;
+    UMWAIT = 67,
 
-    pub const UMWAIT: u32 = 67;
+    TPAUSE = 68,
 
-    pub const TPAUSE: u32 = 68;
-
-    pub const LOADIWKEY: u32 = 69;
+    LOADIWKEY = 69,
 }
 
 const EXIT_REASONS: [u32; 67] = [
-    VmxExitReason::EXCEPTION_NMI,
-    VmxExitReason::EXTERNAL_INTERRUPT,
-    VmxExitReason::TRIPLE_FAULT,
-    VmxExitReason::INIT,
-    VmxExitReason::SIPI,
-    VmxExitReason::SMI,
-    VmxExitReason::OTHER_SMI,
-    VmxExitReason::INTERRUPT_WINDOW,
-    VmxExitReason::NMI_WINDOW,
-    VmxExitReason::TASK_SWITCH,
-    VmxExitReason::CPUID,
-    VmxExitReason::GETSEC,
-    VmxExitReason::HLT,
-    VmxExitReason::INVD,
-    VmxExitReason::INVLPG,
-    VmxExitReason::RDPMC,
-    VmxExitReason::RDTSC,
-    VmxExitReason::RSM,
-    VmxExitReason::VMCALL,
-    VmxExitReason::VMCLEAR,
-    VmxExitReason::VMLAUNCH,
-    VmxExitReason::VMPTRLD,
-    VmxExitReason::VMPTRST,
-    VmxExitReason::VMREAD,
-    VmxExitReason::VMRESUME,
-    VmxExitReason::VMWRITE,
-    VmxExitReason::VMOFF,
-    VmxExitReason::VMON,
-    VmxExitReason::CR_ACCESS,
-    VmxExitReason::DR_ACCESS,
-    VmxExitReason::IO_INSTRUCTION,
-    VmxExitReason::MSR_READ,
-    VmxExitReason::MSR_WRITE,
-    VmxExitReason::INVALID_GUEST_STATE,
-    VmxExitReason::MSR_LOAD_FAIL,
-    VmxExitReason::MWAIT_INSTRUCTION,
-    VmxExitReason::MONITOR_TRAP_FLAG,
-    VmxExitReason::MONITOR_INSTRUCTION,
-    VmxExitReason::PAUSE_INSTRUCTION,
-    VmxExitReason::MCE_DURING_VMENTRY,
-    VmxExitReason::TPR_BELOW_THRESHOLD,
-    VmxExitReason::APIC_ACCESS,
-    VmxExitReason::VIRTUALIZED_EOI,
-    VmxExitReason::GDTR_IDTR,
-    VmxExitReason::LDTR_TR,
-    VmxExitReason::EPT_VIOLATION,
-    VmxExitReason::EPT_MISCONFIG,
-    VmxExitReason::INVEPT,
-    VmxExitReason::RDTSCP,
-    VmxExitReason::PREEMPTION_TIMER,
-    VmxExitReason::INVVPID,
-    VmxExitReason::WBINVD,
-    VmxExitReason::XSETBV,
-    VmxExitReason::APIC_WRITE,
-    VmxExitReason::RDRAND,
-    VmxExitReason::INVPCID,
-    VmxExitReason::VMFUNC,
-    VmxExitReason::ENCLS,
-    VmxExitReason::RDSEED,
-    VmxExitReason::PML_FULL,
-    VmxExitReason::XSAVES,
-    VmxExitReason::XRSTORS,
-    VmxExitReason::PCONFIG,
-    VmxExitReason::SPP_EVENT,
-    VmxExitReason::UMWAIT,
-    VmxExitReason::TPAUSE,
-    VmxExitReason::LOADIWKEY,
+    VmxExitReason::EXCEPTION_NMI as u32,
+    VmxExitReason::EXTERNAL_INTERRUPT as u32,
+    VmxExitReason::TRIPLE_FAULT as u32,
+    VmxExitReason::INIT as u32,
+    VmxExitReason::SIPI as u32,
+    VmxExitReason::SMI as u32,
+    VmxExitReason::OTHER_SMI as u32,
+    VmxExitReason::INTERRUPT_WINDOW as u32,
+    VmxExitReason::NMI_WINDOW as u32,
+    VmxExitReason::TASK_SWITCH as u32,
+    VmxExitReason::CPUID as u32,
+    VmxExitReason::GETSEC as u32,
+    VmxExitReason::HLT as u32,
+    VmxExitReason::INVD as u32,
+    VmxExitReason::INVLPG as u32,
+    VmxExitReason::RDPMC as u32,
+    VmxExitReason::RDTSC as u32,
+    VmxExitReason::RSM as u32,
+    VmxExitReason::VMCALL as u32,
+    VmxExitReason::VMCLEAR as u32,
+    VmxExitReason::VMLAUNCH as u32,
+    VmxExitReason::VMPTRLD as u32,
+    VmxExitReason::VMPTRST as u32,
+    VmxExitReason::VMREAD as u32,
+    VmxExitReason::VMRESUME as u32,
+    VmxExitReason::VMWRITE as u32,
+    VmxExitReason::VMOFF as u32,
+    VmxExitReason::VMON as u32,
+    VmxExitReason::CR_ACCESS as u32,
+    VmxExitReason::DR_ACCESS as u32,
+    VmxExitReason::IO_INSTRUCTION as u32,
+    VmxExitReason::MSR_READ as u32,
+    VmxExitReason::MSR_WRITE as u32,
+    VmxExitReason::INVALID_GUEST_STATE as u32,
+    VmxExitReason::MSR_LOAD_FAIL as u32,
+    VmxExitReason::MWAIT_INSTRUCTION as u32,
+    VmxExitReason::MONITOR_TRAP_FLAG as u32,
+    VmxExitReason::MONITOR_INSTRUCTION as u32,
+    VmxExitReason::PAUSE_INSTRUCTION as u32,
+    VmxExitReason::MCE_DURING_VMENTRY as u32,
+    VmxExitReason::TPR_BELOW_THRESHOLD as u32,
+    VmxExitReason::APIC_ACCESS as u32,
+    VmxExitReason::VIRTUALIZED_EOI as u32,
+    VmxExitReason::GDTR_IDTR as u32,
+    VmxExitReason::LDTR_TR as u32,
+    VmxExitReason::EPT_VIOLATION as u32,
+    VmxExitReason::EPT_MISCONFIG as u32,
+    VmxExitReason::INVEPT as u32,
+    VmxExitReason::RDTSCP as u32,
+    VmxExitReason::PREEMPTION_TIMER as u32,
+    VmxExitReason::INVVPID as u32,
+    VmxExitReason::WBINVD as u32,
+    VmxExitReason::XSETBV as u32,
+    VmxExitReason::APIC_WRITE as u32,
+    VmxExitReason::RDRAND as u32,
+    VmxExitReason::INVPCID as u32,
+    VmxExitReason::VMFUNC as u32,
+    VmxExitReason::ENCLS as u32,
+    VmxExitReason::RDSEED as u32,
+    VmxExitReason::PML_FULL as u32,
+    VmxExitReason::XSAVES as u32,
+    VmxExitReason::XRSTORS as u32,
+    VmxExitReason::PCONFIG as u32,
+    VmxExitReason::SPP_EVENT as u32,
+    VmxExitReason::UMWAIT as u32,
+    VmxExitReason::TPAUSE as u32,
+    VmxExitReason::LOADIWKEY as u32,
 ];
 
 // Every name in the order of its number: the contract ties each to its number.

@@ -1,83 +1,113 @@
-// The numbers of the refusals (document 01, "The operations and their numbers"), named as in include/x86_vcpu.h. 0 is an accepted call.
-#[derive(Drop)]
-pub struct Refusal {}
+// The refusals of a call (document 01, "The operations and their numbers"), named as in include/x86_vcpu.h. 0 is an accepted call.
+ghost use Rattle.std.specs.Prelude.{◌≡◌};
+ghost use Rattle.definitions.specs.Refusals.{number, refusal_of, yes_no};
 
-impl Refusal {
+#[derive(Clone, Copy, Debug, PartialEq, Eq, Hash)]
+pub enum Refusal {
     // The call is not allowed in the session's phase.
-    pub const PHASE: u32 = 1;
+    Phase = 1,
 
     // A lent length is wrong, or the bytes are no record, or a yes/no byte is neither 0 nor 1.
-    pub const BYTES: u32 = 2;
+    Bytes = 2,
 
     // No field has this encoding.
-    pub const ENCODING: u32 = 3;
+    Encoding = 3,
 
     // The field is read-only.
-    pub const READ_ONLY: u32 = 4;
+    ReadOnly = 4,
 
     // The value is wider than the field.
-    pub const WIDTH: u32 = 5;
+    Width = 5,
 
     // A bit must be 1 and may not be: allowed-0 outside allowed-1, fixed-0 outside fixed-1.
-    pub const PAIR: u32 = 6;
+    Pair = 6,
 
     // A bit is to be both set and cleared.
-    pub const SET_AND_CLEAR: u32 = 7;
+    SetAndClear = 7,
 
     // A bit to be set is not in allowed-1.
-    pub const SET: u32 = 8;
+    Set = 8,
 
     // A bit to be cleared is in allowed-0.
-    pub const CLEAR: u32 = 9;
+    Clear = 9,
 
     // The last port is above 65,535.
-    pub const PORT: u32 = 10;
+    Port = 10,
 
     // The MSR is in neither range of the bitmap.
-    pub const MSR: u32 = 11;
+    Msr = 11,
 
     // The vector is 0 or above 255.
-    pub const VECTOR: u32 = 12;
+    Vector = 12,
 
     // 64 events wait.
-    pub const FULL: u32 = 13;
+    Full = 13,
 
     // The exit reason is not one that a report may have.
-    pub const REASON: u32 = 14;
+    Reason = 14,
 
     // A bit of CR0 or CR4 under its guest/host mask differs from the session's.
-    pub const OWNED_BITS: u32 = 15;
+    OwnedBits = 15,
 
     // The interruption information of an external interrupt is not valid, or has a reserved type.
-    pub const INTERRUPT: u32 = 16;
+    Interrupt = 16,
 
     // A sum passes 2⁶⁴ − 1.
-    pub const SUM: u32 = 17;
+    Sum = 17,
 
     // A control-register access other than a move to CR0 or CR4.
-    pub const CR_ACCESS: u32 = 18;
+    CrAccess = 18,
 
     // XSETBV of a value that XCR0 may not have.
-    pub const XCR0: u32 = 19;
+    Xcr0 = 19,
 
     // XSETBV of another register than XCR0.
-    pub const XCR: u32 = 20;
+    Xcr = 20,
 
     // An APIC access.
-    pub const APIC_ACCESS: u32 = 21;
+    ApicAccess = 21,
 
     // The entry count is 2³² − 1.
-    pub const COUNT: u32 = 22;
+    Count = 22,
 
     // The register's index is 4 or above 15.
-    pub const INDEX: u32 = 23;
+    Index = 23,
 
     // The output is shorter than the sheet.
-    pub const ROOM: u32 = 24;
+    Room = 24,
 
     // A trial's second buffer has another length than the first.
-    pub const SHOWN: u32 = 25;
+    Shown = 25,
 
     // An entry of the guest's page tables lies past the end of the memory lent.
-    pub const MEMORY: u32 = 26;
+    Memory = 26,
+}
+
+impl From<Refusal> for u32 {
+    ghost from_gives = { λ refusal n. n ≡ number refusal };
+
+    fn from(refusal: Refusal) -> u32 {
+        refusal as u32
+    }
+}
+
+// The number that C is given: 0 where the call is accepted, else that of the refusal.
+pub fn refusal_of(answer: Result<(), Refusal>) -> u32
+    ensures { result ≡ refusal_of answer }
+{
+    match answer {
+        Ok(()) => 0,
+        Err(refusal) => u32::from(refusal),
+    }
+}
+
+// A yes/no byte of C: 0 is no, 1 is yes, and 2 refuses any other.
+pub fn yes_no(byte: u8) -> Result<bool, Refusal>
+    ensures { result ≡ yes_no byte }
+{
+    match byte {
+        0 => Ok(false),
+        1 => Ok(true),
+        _ => Err(Refusal::Bytes),
+    }
 }

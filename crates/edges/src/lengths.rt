@@ -1,105 +1,60 @@
 // Lent lengths: a byte less and a byte more than the right one.
+use host_calls::Frames;
 use record::Record;
+use replay::{answered, print_line};
 use std::io;
 use structs::FRAME_SIZE;
+use x86_vcpu::session::vcpu_new;
+use x86_vcpu::{vcpu_set_io_intercept_of_range, vcpu_set_write_intercept};
 
-fn new_refusal(bytes: &mut [u8], a: &mut [u8], b: &mut [u8], msr: &mut [u8]) -> u32 {
-    x86_vcpu::session::vcpu_new(bytes, a, b, msr)
+fn print_length(rt: &impl Print, call: &str, length: usize, refusal: u32) -> io::Result<()> {
+    print_line(rt, call, &[length as u64], answered(refusal, []))
 }
 
-fn port_refusal(a: &mut [u8], b: &mut [u8]) -> u32 {
-    x86_vcpu::vcpu_set_io_intercept_of_range(a, b, 0, 1, 1)
-}
-
-fn msr_refusal(frame: &mut [u8]) -> u32 {
-    x86_vcpu::vcpu_set_write_intercept(frame, 0, 1)
-}
-
-fn print_length(rt: &impl Print, name: &[u8], length: u64, refusal: u32) -> io::Result<()> {
-    replay::print_call(rt, name, &[length])?;
-    replay::print_accepted(rt, refusal)
-}
-
-fn new(rt: &impl Print) -> io::Result<()> {
-    let mut short = [0u8; Record::LENGTH - 1];
-    let mut bytes = [0u8; Record::LENGTH];
-    let mut long = [0u8; Record::LENGTH + 1];
-    let mut a = [0u8; FRAME_SIZE];
-    let mut b = [0u8; FRAME_SIZE];
-    let mut msr = [0u8; FRAME_SIZE];
-    print_length(
-        rt,
-        b"new, record of",
-        short.len() as u64,
-        new_refusal(&mut short, &mut a, &mut b, &mut msr),
-    )?;
-    print_length(
-        rt,
-        b"new, record of",
-        bytes.len() as u64,
-        new_refusal(&mut bytes, &mut a, &mut b, &mut msr),
-    )?;
-    print_length(
-        rt,
-        b"new, record of",
-        long.len() as u64,
-        new_refusal(&mut long, &mut a, &mut b, &mut msr),
-    )
+fn new(rt: &impl Print, bytes: &mut [u8]) -> io::Result<()> {
+    let Frames {
+        mut a,
+        mut b,
+        mut msr,
+    } = Frames::new();
+    let refusal = vcpu_new(bytes, &mut a, &mut b, &mut msr);
+    print_length(rt, "new, record of", bytes.len(), refusal)
 }
 
 // A frame of a wrong length, in each place.
-fn wrong_new(rt: &impl Print, frame: &mut [u8], length: u64) -> io::Result<()> {
-    let mut bytes = [0u8; Record::LENGTH];
-    let mut a = [0u8; FRAME_SIZE];
-    let mut b = [0u8; FRAME_SIZE];
-    print_length(
-        rt,
-        b"new, A of",
-        length,
-        new_refusal(&mut bytes, frame, &mut a, &mut b),
-    )?;
-    print_length(
-        rt,
-        b"new, B of",
-        length,
-        new_refusal(&mut bytes, &mut a, frame, &mut b),
-    )?;
-    print_length(
-        rt,
-        b"new, MSR of",
-        length,
-        new_refusal(&mut bytes, &mut a, &mut b, frame),
-    )
+fn wrong_new(rt: &impl Print, frame: &mut [u8]) -> io::Result<()> {
+    let mut bytes = [0; Record::LENGTH];
+    let Frames {
+        mut a,
+        mut b,
+        mut msr,
+    } = Frames::new();
+    let refusal = vcpu_new(&mut bytes, frame, &mut b, &mut msr);
+    print_length(rt, "new, A of", frame.len(), refusal)?;
+    let refusal = vcpu_new(&mut bytes, &mut a, frame, &mut msr);
+    print_length(rt, "new, B of", frame.len(), refusal)?;
+    let refusal = vcpu_new(&mut bytes, &mut a, &mut b, frame);
+    print_length(rt, "new, MSR of", frame.len(), refusal)
 }
 
-fn wrong_edits(rt: &impl Print, frame: &mut [u8], length: u64) -> io::Result<()> {
-    let mut a = [0u8; FRAME_SIZE];
-    print_length(
-        rt,
-        b"set_io_intercept_of_range, A of",
-        length,
-        port_refusal(frame, &mut a),
-    )?;
-    print_length(
-        rt,
-        b"set_io_intercept_of_range, B of",
-        length,
-        port_refusal(&mut a, frame),
-    )?;
-    print_length(
-        rt,
-        b"set_write_intercept, MSR of",
-        length,
-        msr_refusal(frame),
-    )
+fn wrong_edits(rt: &impl Print, frame: &mut [u8]) -> io::Result<()> {
+    let Frames { mut a, mut b, .. } = Frames::new();
+    let refusal = vcpu_set_io_intercept_of_range(frame, &mut b, 0, 1, 1);
+    print_length(rt, "set_io_intercept_of_range, A of", frame.len(), refusal)?;
+    let refusal = vcpu_set_io_intercept_of_range(&mut a, frame, 0, 1, 1);
+    print_length(rt, "set_io_intercept_of_range, B of", frame.len(), refusal)?;
+    let refusal = vcpu_set_write_intercept(frame, 0, 1);
+    print_length(rt, "set_write_intercept, MSR of", frame.len(), refusal)
 }
 
 pub fn lengths(rt: &impl Print) -> io::Result<()> {
-    new(rt)?;
-    let mut short = [0u8; 4095];
-    let mut long = [0u8; 4097];
-    wrong_new(rt, &mut short, 4095)?;
-    wrong_edits(rt, &mut short, 4095)?;
-    wrong_new(rt, &mut long, 4097)?;
-    wrong_edits(rt, &mut long, 4097)
+    new(rt, &mut [0; Record::LENGTH - 1])?;
+    new(rt, &mut [0; Record::LENGTH])?;
+    new(rt, &mut [0; Record::LENGTH + 1])?;
+    let mut short = [0; FRAME_SIZE - 1];
+    wrong_new(rt, &mut short)?;
+    wrong_edits(rt, &mut short)?;
+    let mut long = [0; FRAME_SIZE + 1];
+    wrong_new(rt, &mut long)?;
+    wrong_edits(rt, &mut long)
 }

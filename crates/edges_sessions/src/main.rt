@@ -6,79 +6,57 @@ mod events;
 mod reports;
 mod sessions;
 
-use record::{Record, words};
+use host_calls::HeldSession;
+use replay::answered;
 use std::io;
+use x86_vcpu::readings::vcpu_get_counts;
 
-// Store numbers of the record.
-fn put1(bytes: &mut [u8; Record::LENGTH], at: usize, value: u8) {
-    if at < Record::LENGTH {
-        words::put1(bytes, at, value);
-    }
-}
-
-fn put4(bytes: &mut [u8; Record::LENGTH], at: usize, value: u32) {
-    if at < Record::LENGTH - 3 {
-        words::put4(bytes, at, value);
-    }
-}
-
-#[derive(Drop)]
+// Where a session stands, how many events wait, its entries, and those that held an event.
+#[derive(Clone, Copy)]
 struct Counts {
-    refusal: u32,
-    phase: u64,
-    launched: u64,
-    waiting: u64,
-    entries: u64,
-    held: u64,
+    phase: u8,
+    launched: u8,
+    waiting: u8,
+    entries: u32,
+    held: u32,
 }
 
-fn counts_of(bytes: &[u8; Record::LENGTH]) -> Counts {
+fn counts_of(session: &HeldSession) -> Result<Counts, u32> {
     let mut phase: u8 = 0;
     let mut launched: u8 = 0;
     let mut waiting: u8 = 0;
     let mut entries: u32 = 0;
     let mut held: u32 = 0;
-    let refusal = x86_vcpu::readings::vcpu_get_counts(
-        bytes,
+    let refusal = vcpu_get_counts(
+        &session.bytes,
         &mut phase,
         &mut launched,
         &mut waiting,
         &mut entries,
         &mut held,
     );
-    Counts {
-        refusal: refusal,
-        phase: phase as u64,
-        launched: launched as u64,
-        waiting: waiting as u64,
-        entries: entries as u64,
-        held: held as u64,
-    }
-}
-
-// The phase of a record.
-fn phase_of(bytes: &[u8; Record::LENGTH]) -> u64 {
-    counts_of(bytes).phase
-}
-
-// The record of a new session, which is zeros, in a phase.
-fn in_phase(phase: u8) -> [u8; Record::LENGTH] {
-    let mut bytes = [0u8; Record::LENGTH];
-    put1(&mut bytes, Record::PHASE, phase);
-    bytes
-}
-
-// Writes a field by its encoding: the refusal.
-fn write(bytes: &mut [u8; Record::LENGTH], encoding: u64, value: u64) -> u32 {
-    x86_vcpu::session::vcpu_write_field(bytes, encoding, value)
+    answered(
+        refusal,
+        Counts {
+            phase,
+            launched,
+            waiting,
+            entries,
+            held,
+        },
+    )
 }
 
 fn main(rt: HostRuntime) -> io::Result<()> {
     sessions::records(&rt)?;
-    sessions::queues(&rt)?;
+    sessions::queued(&rt)?;
+    sessions::injected(&rt)?;
     sessions::entries(&rt)?;
     events::events(&rt)?;
     sessions::apic_values(&rt)?;
-    reports::reports(&rt)?;
-    reports::control_registers(&rt)
+    reports::reasons(&rt)?;
+    reports::interruptions(&rt)?;
+    reports::qualifications(&rt)?;
+    reports::masks(&rt)?;
+    reports::moves_to_cr0(&rt)
 }

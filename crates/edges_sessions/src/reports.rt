@@ -1,6 +1,10 @@
 // Exit reports. The phase after an accepted one is printed.
 use blocks::report::Layout;
-use record::{Record, words};
+use definitions::exit_reason::VmxExitReason as Reason;
+use host_calls::{HeldSession, report_block};
+use record::Record;
+use record::words::Stored;
+use replay::print_line;
 use std::io;
 use vcpu_session::Phase;
 
@@ -8,47 +12,30 @@ const CR0_GUEST_HOST_MASK: u64 = 0x6000;
 
 const CR4_GUEST_HOST_MASK: u64 = 0x6002;
 
-// Store numbers of the block.
-fn put4(block: &mut [u8; Layout::LENGTH], at: usize, value: u32) {
-    if at < Layout::LENGTH - 3 {
-        words::put4(block, at, value);
-    }
-}
+// Above the reasons that a report may have.
+const UNKNOWN: u32 = 65;
 
-fn put8(block: &mut [u8; Layout::LENGTH], at: usize, value: u64) {
-    if at < Layout::LENGTH - 7 {
-        words::put8(block, at, value);
-    }
-}
+// Bit 31 of a reason, and an invalid guest state.
+const FAILED_ENTRY: u32 = 0x8000_0021;
 
-fn print_report(
-    rt: &impl Print,
-    bytes: &mut [u8; Record::LENGTH],
-    block: &[u8; Layout::LENGTH],
-) -> io::Result<()> {
-    let mut answer = [0u64; 8];
-    let refusal = x86_vcpu::report::vcpu_exit_report(bytes, block, &mut answer);
-    replay::print_answer(rt, refusal, &[crate::phase_of(bytes)])
+fn phase_after(session: &mut HeldSession, block: &[u8]) -> Result<[u64; 1], u32> {
+    session.report(block)?;
+    Ok([crate::counts_of(session)?.phase.into()])
 }
 
 // A report to a session in a phase.
-fn report_in(rt: &impl Print, phase: u8, reason: u32) -> io::Result<()> {
-    let mut bytes = crate::in_phase(phase);
-    let mut block = [0u8; Layout::LENGTH];
-    put4(&mut block, Layout::REASON, reason);
-    replay::print_call(rt, b"exit_report", &[phase as u64, reason as u64])?;
-    print_report(rt, &mut bytes, &block)
+fn reason(rt: &impl Print, phase: u8, reason: u32) -> io::Result<()> {
+    let mut session = HeldSession::in_phase(phase);
+    let after = phase_after(&mut session, &report_block(reason));
+    print_line(rt, "exit_report", &[phase.into(), reason.into()], after)
 }
 
-fn reason(rt: &impl Print, n: u32) -> io::Result<()> {
-    report_in(rt, Phase::RUNNING, n)
-}
-
-fn reasons(rt: &impl Print) -> io::Result<()> {
-    for (phase, reason) in [(1, 10), (2, 10), (3, 10), (1, 65)] {
-        report_in(rt, phase, reason)?;
-    }
-    for n in [
+pub fn reasons(rt: &impl Print) -> io::Result<()> {
+    reason(rt, Phase::READY, Reason::CPUID as u32)?;
+    reason(rt, Phase::RUNNING, Reason::CPUID as u32)?;
+    reason(rt, Phase::WAITING, Reason::CPUID as u32)?;
+    reason(rt, Phase::READY, UNKNOWN)?;
+    for number in [
         34,
         35,
         36,
@@ -59,11 +46,11 @@ fn reasons(rt: &impl Print) -> io::Result<()> {
         42,
         43,
         64,
-        65,
+        UNKNOWN,
         0xFFFF,
         0x7FFF_0040,
         0x8000_0020,
-        0x8000_0021,
+        FAILED_ENTRY,
         0x8000_0022,
         0x8000_0023,
         0x8000_0028,
@@ -71,126 +58,116 @@ fn reasons(rt: &impl Print) -> io::Result<()> {
         0x8000_002A,
         44,
     ] {
-        reason(rt, n)?;
+        reason(rt, Phase::RUNNING, number)?;
     }
     Ok(())
 }
 
 // A report with interruption information.
-fn interruption(rt: &impl Print, reason: u32, information: u32) -> io::Result<()> {
-    let mut bytes = crate::in_phase(Phase::RUNNING);
-    let mut block = [0u8; Layout::LENGTH];
-    put4(&mut block, Layout::REASON, reason);
-    put4(&mut block, Layout::INTERRUPTION, information);
-    replay::print_call(
-        rt,
-        b"exit_report, interruption",
-        &[reason as u64, information as u64],
-    )?;
-    print_report(rt, &mut bytes, &block)
+pub fn interruptions(rt: &impl Print) -> io::Result<()> {
+    for (reason, information) in [
+        (Reason::EXTERNAL_INTERRUPT, 0x8000_0020),
+        (Reason::EXTERNAL_INTERRUPT, 0x0000_0020),
+        (Reason::EXTERNAL_INTERRUPT, 0x8000_0120),
+        (Reason::EXTERNAL_INTERRUPT, 0x8000_0220),
+        (Reason::CPUID, 0),
+    ] {
+        let mut block = report_block(reason as u32);
+        u32::put(&mut block, Layout::INTERRUPTION, information);
+        let mut session = HeldSession::in_phase(Phase::RUNNING);
+        print_line(
+            rt,
+            "exit_report, interruption",
+            &[reason as u64, information.into()],
+            phase_after(&mut session, &block),
+        )?;
+    }
+    Ok(())
 }
 
 // A report with a qualification, RCX and RIP.
-fn report(rt: &impl Print, reason: u32, qualification: u64, rcx: u64, rip: u64) -> io::Result<()> {
-    let mut bytes = crate::in_phase(Phase::RUNNING);
-    let mut block = [0u8; Layout::LENGTH];
-    put4(&mut block, Layout::REASON, reason);
-    put8(&mut block, Layout::QUALIFICATION, qualification);
-    put8(&mut block, Layout::REGS + 8, rcx);
-    put8(&mut block, Layout::RIP, rip);
-    replay::print_call(
+fn qualification(
+    rt: &impl Print,
+    reason: Reason,
+    qualification: u64,
+    rcx: u64,
+    rip: u64,
+) -> io::Result<()> {
+    let mut block = report_block(reason as u32);
+    u64::put(&mut block, Layout::QUALIFICATION, qualification);
+    u64::put(&mut block, Layout::REGS + 8, rcx);
+    u64::put(&mut block, Layout::RIP, rip);
+    let mut session = HeldSession::in_phase(Phase::RUNNING);
+    print_line(
         rt,
-        b"exit_report, qualification",
+        "exit_report, qualification",
         &[reason as u64, qualification, rcx, rip],
-    )?;
-    print_report(rt, &mut bytes, &block)
+        phase_after(&mut session, &block),
+    )
 }
 
-pub fn reports(rt: &impl Print) -> io::Result<()> {
-    reasons(rt)?;
-    for (reason, information) in [
-        (1, 0x8000_0020),
-        (1, 0x0000_0020),
-        (1, 0x8000_0120),
-        (1, 0x8000_0220),
-        (10, 0),
+pub fn qualifications(rt: &impl Print) -> io::Result<()> {
+    for (reason, word, rcx, rip) in [
+        (Reason::CR_ACCESS, 0, 0, 0),
+        (Reason::CR_ACCESS, 3, 0, 0),
+        (Reason::CR_ACCESS, 4, 0, 0),
+        (Reason::CR_ACCESS, 8, 0, 0),
+        (Reason::CR_ACCESS, 0x10, 0, 0),
+        (Reason::CR_ACCESS, 0x14, 0, 0),
+        (Reason::CR_ACCESS, 0x20, 0, 0),
+        (Reason::CR_ACCESS, 0x30, 0, 0),
+        (Reason::XSETBV, 0, 0, 0),
+        (Reason::XSETBV, 0, 1, 0),
+        (Reason::XSETBV, 0, 0x1_0000_0000, 0),
+        (Reason::APIC_ACCESS, 0, 0, 0xFFFF_FFFF_FFFF_FFFF),
+        (Reason::CPUID, 0, 0, 0xFFFF_FFFF_FFFF_FFFD),
+        (Reason::CPUID, 0, 0, 0xFFFF_FFFF_FFFF_FFFE),
+        (Reason::CR_ACCESS, 0, 0, 0xFFFF_FFFF_FFFF_FFFC),
+        (Reason::CR_ACCESS, 0, 0, 0xFFFF_FFFF_FFFF_FFFD),
+        (Reason::INTERRUPT_WINDOW, 0, 0, 0xFFFF_FFFF_FFFF_FFFF),
+        (Reason::MSR_READ, 0, 0x7FF, 0),
+        (Reason::MSR_READ, 0, 0x800, 0),
+        (Reason::MSR_READ, 0, 0x8FF, 0),
+        (Reason::MSR_READ, 0, 0x900, 0),
     ] {
-        interruption(rt, reason, information)?;
-    }
-    for (reason, qualification, rcx, rip) in [
-        (28, 0, 0, 0),
-        (28, 3, 0, 0),
-        (28, 4, 0, 0),
-        (28, 8, 0, 0),
-        (28, 0x10, 0, 0),
-        (28, 0x14, 0, 0),
-        (28, 0x20, 0, 0),
-        (28, 0x30, 0, 0),
-        (55, 0, 0, 0),
-        (55, 0, 1, 0),
-        (55, 0, 0x1_0000_0000, 0),
-        (44, 0, 0, 0xFFFF_FFFF_FFFF_FFFF),
-        (10, 0, 0, 0xFFFF_FFFF_FFFF_FFFD),
-        (10, 0, 0, 0xFFFF_FFFF_FFFF_FFFE),
-        (28, 0, 0, 0xFFFF_FFFF_FFFF_FFFC),
-        (28, 0, 0, 0xFFFF_FFFF_FFFF_FFFD),
-        (7, 0, 0, 0xFFFF_FFFF_FFFF_FFFF),
-        (31, 0, 0x7FF, 0),
-        (31, 0, 0x800, 0),
-        (31, 0, 0x8FF, 0),
-        (31, 0, 0x900, 0),
-    ] {
-        report(rt, reason, qualification, rcx, rip)?;
+        qualification(rt, reason, word, rcx, rip)?;
     }
     Ok(())
 }
 
 // Bit 0 of CR0 and of CR4 is under its guest/host mask, and 0 in the session.
-fn masked(rt: &impl Print, reason: u32, cr0: u64, cr4: u64) -> io::Result<()> {
-    let mut bytes = crate::in_phase(Phase::RUNNING);
-    crate::write(&mut bytes, CR0_GUEST_HOST_MASK, 1);
-    crate::write(&mut bytes, CR4_GUEST_HOST_MASK, 1);
-    let mut block = [0u8; Layout::LENGTH];
-    put4(&mut block, Layout::REASON, reason);
-    put8(&mut block, Layout::CR0, cr0);
-    put8(&mut block, Layout::CR4, cr4);
-    replay::print_call(
-        rt,
-        b"exit_report, masks of bit 0",
-        &[reason as u64, cr0, cr4],
-    )?;
-    print_report(rt, &mut bytes, &block)
+pub fn masks(rt: &impl Print) -> io::Result<()> {
+    for (reason, cr0, cr4) in [
+        (Reason::CPUID as u32, 0, 0),
+        (
+            Reason::CPUID as u32,
+            0xFFFF_FFFF_FFFF_FFFE,
+            0xFFFF_FFFF_FFFF_FFFE,
+        ),
+        (Reason::CPUID as u32, 1, 0),
+        (Reason::CPUID as u32, 0, 1),
+        (FAILED_ENTRY, 1, 1),
+        (UNKNOWN, 1, 1),
+        (Reason::APIC_ACCESS as u32, 1, 0),
+    ] {
+        let mut session = HeldSession::in_phase(Phase::RUNNING);
+        let _ = session.write_field(CR0_GUEST_HOST_MASK, 1);
+        let _ = session.write_field(CR4_GUEST_HOST_MASK, 1);
+        let mut block = report_block(reason);
+        u64::put(&mut block, Layout::CR0, cr0);
+        u64::put(&mut block, Layout::CR4, cr4);
+        print_line(
+            rt,
+            "exit_report, masks of bit 0",
+            &[reason.into(), cr0, cr4],
+            phase_after(&mut session, &block),
+        )?;
+    }
+    Ok(())
 }
 
 // A move of RAX to CR0, with EFER and allowed-1 of the entry word.
-fn move_to_cr0(rt: &impl Print, rax: u64, efer: u64, allowed1: u32, rip: u64) -> io::Result<()> {
-    let mut bytes = crate::in_phase(Phase::RUNNING);
-    crate::put4(&mut bytes, Record::PAIRS + 36, allowed1);
-    let mut block = [0u8; Layout::LENGTH];
-    put8(&mut block, Layout::REGS, rax);
-    put8(&mut block, Layout::EFER, efer);
-    put8(&mut block, Layout::RIP, rip);
-    put4(&mut block, Layout::REASON, 28);
-    replay::print_call(
-        rt,
-        b"exit_report, move to CR0",
-        &[rax, efer, allowed1 as u64, rip],
-    )?;
-    print_report(rt, &mut bytes, &block)
-}
-
-pub fn control_registers(rt: &impl Print) -> io::Result<()> {
-    for (reason, cr0, cr4) in [
-        (10, 0, 0),
-        (10, 0xFFFF_FFFF_FFFF_FFFE, 0xFFFF_FFFF_FFFF_FFFE),
-        (10, 1, 0),
-        (10, 0, 1),
-        (0x8000_0021, 1, 1),
-        (65, 1, 1),
-        (44, 1, 0),
-    ] {
-        masked(rt, reason, cr0, cr4)?;
-    }
+pub fn moves_to_cr0(rt: &impl Print) -> io::Result<()> {
     for (rax, efer, allowed1, rip) in [
         (0x8000_0000, 0, 0x200, 0),
         (0x8000_0000, 0, 0xFFFF_FDFF, 0),
@@ -200,7 +177,18 @@ pub fn control_registers(rt: &impl Print) -> io::Result<()> {
         (0x7FFF_FFFF, 0, 0, 0),
         (0x8000_0000, 0, 0, 0xFFFF_FFFF_FFFF_FFFF),
     ] {
-        move_to_cr0(rt, rax, efer, allowed1, rip)?;
+        let mut session = HeldSession::in_phase(Phase::RUNNING);
+        u32::put(&mut session.bytes, Record::PAIRS + 36, allowed1);
+        let mut block = report_block(Reason::CR_ACCESS as u32);
+        u64::put(&mut block, Layout::REGS, rax);
+        u64::put(&mut block, Layout::EFER, efer);
+        u64::put(&mut block, Layout::RIP, rip);
+        print_line(
+            rt,
+            "exit_report, move to CR0",
+            &[rax, efer, allowed1.into(), rip],
+            phase_after(&mut session, &block),
+        )?;
     }
     Ok(())
 }

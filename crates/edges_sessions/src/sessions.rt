@@ -1,45 +1,22 @@
 // Records, the queue, entries and APIC values.
+use host_calls::HeldSession;
 use record::Record;
+use record::words::Stored;
+use replay::{answered, print_line};
 use std::io;
 use vcpu_session::Phase;
+use x86_vcpu::session::{vcpu_apic_value, vcpu_inject_interrupt, vcpu_queue_event};
 
 const INTERRUPTIBILITY: u64 = 0x4824;
 
 const RFLAGS: u64 = 0x6820;
 
-// ---- Which bytes are a record.
+// The indices of RAX and RDX.
+const RAX: u64 = 0;
 
-fn record(
-    rt: &impl Print,
-    phase: u8,
-    launched: u8,
-    waiting: u8,
-    entries: u32,
-    held: u32,
-) -> io::Result<()> {
-    let mut bytes = crate::in_phase(phase);
-    crate::put1(&mut bytes, Record::LAUNCHED, launched);
-    crate::put1(&mut bytes, Record::WAITING, waiting);
-    crate::put4(&mut bytes, Record::ENTRIES, entries);
-    crate::put4(&mut bytes, Record::HELD, held);
-    let c = crate::counts_of(&bytes);
-    replay::print_call(
-        rt,
-        b"get_counts",
-        &[
-            phase as u64,
-            launched as u64,
-            waiting as u64,
-            entries as u64,
-            held as u64,
-        ],
-    )?;
-    replay::print_answer(
-        rt,
-        c.refusal,
-        &[c.phase, c.launched, c.waiting, c.entries, c.held],
-    )
-}
+const RDX: u64 = 2;
+
+// ---- Which bytes are a record.
 
 pub fn records(rt: &impl Print) -> io::Result<()> {
     for (phase, launched, waiting, entries, held) in [
@@ -54,43 +31,41 @@ pub fn records(rt: &impl Print) -> io::Result<()> {
         (0, 0, 0, 7, 8),
         (0, 0, 0, 0xFFFF_FFFF, 0xFFFF_FFFF),
     ] {
-        record(rt, phase, launched, waiting, entries, held)?;
+        let mut session = HeldSession::in_phase(phase);
+        session.bytes[Record::LAUNCHED] = launched;
+        session.bytes[Record::WAITING] = waiting;
+        u32::put(&mut session.bytes, Record::ENTRIES, entries);
+        u32::put(&mut session.bytes, Record::HELD, held);
+        let bytes = [phase, launched, waiting].map(u64::from);
+        let arguments = [bytes[0], bytes[1], bytes[2], entries.into(), held.into()];
+        let answer = crate::counts_of(&session).map(|c| {
+            [
+                c.phase.into(),
+                c.launched.into(),
+                c.waiting.into(),
+                c.entries.into(),
+                c.held.into(),
+            ]
+        });
+        print_line(rt, "get_counts", &arguments, answer)?;
     }
     Ok(())
 }
 
-// ---- The queue.
+// ---- The queue: how many events wait is printed.
 
-fn with_waiting(phase: u8, waiting: u8) -> [u8; Record::LENGTH] {
-    let mut bytes = crate::in_phase(phase);
-    crate::put1(&mut bytes, Record::WAITING, waiting);
-    bytes
+fn with_waiting(phase: u8, waiting: u8) -> HeldSession {
+    let mut session = HeldSession::in_phase(phase);
+    session.bytes[Record::WAITING] = waiting;
+    session
 }
 
-// How many events wait is printed.
-fn queue(rt: &impl Print, phase: u8, waiting: u8, vector: u8, coded: u8) -> io::Result<()> {
-    let mut bytes = with_waiting(phase, waiting);
-    let refusal = x86_vcpu::session::vcpu_queue_event(&mut bytes, vector, coded, 0);
-    replay::print_call(
-        rt,
-        b"queue_event",
-        &[phase as u64, waiting as u64, vector as u64, coded as u64],
-    )?;
-    replay::print_answer(rt, refusal, &[crate::counts_of(&bytes).waiting])
+fn waiting_after(refusal: u32, session: &HeldSession) -> Result<[u64; 1], u32> {
+    answered(refusal, ())?;
+    Ok([crate::counts_of(session)?.waiting.into()])
 }
 
-fn inject(rt: &impl Print, phase: u8, waiting: u8, vector: u64) -> io::Result<()> {
-    let mut bytes = with_waiting(phase, waiting);
-    let refusal = x86_vcpu::session::vcpu_inject_interrupt(&mut bytes, vector);
-    replay::print_call(
-        rt,
-        b"inject_interrupt",
-        &[phase as u64, waiting as u64, vector],
-    )?;
-    replay::print_answer(rt, refusal, &[crate::counts_of(&bytes).waiting])
-}
-
-pub fn queues(rt: &impl Print) -> io::Result<()> {
+pub fn queued(rt: &impl Print) -> io::Result<()> {
     for (phase, waiting, vector, coded) in [
         (0, 0, 0, 0),
         (0, 0, 255, 1),
@@ -101,8 +76,20 @@ pub fn queues(rt: &impl Print) -> io::Result<()> {
         (0, 64, 32, 0),
         (4, 64, 32, 0),
     ] {
-        queue(rt, phase, waiting, vector, coded)?;
+        let mut session = with_waiting(phase, waiting);
+        let refusal = vcpu_queue_event(&mut session.bytes, vector, coded, 0);
+        let arguments = [phase, waiting, vector, coded].map(u64::from);
+        print_line(
+            rt,
+            "queue_event",
+            &arguments,
+            waiting_after(refusal, &session),
+        )?;
     }
+    Ok(())
+}
+
+pub fn injected(rt: &impl Print) -> io::Result<()> {
     for (phase, waiting, vector) in [
         (0, 0, 0),
         (0, 0, 1),
@@ -115,62 +102,44 @@ pub fn queues(rt: &impl Print) -> io::Result<()> {
         (0, 64, 32),
         (0, 64, 0),
     ] {
-        inject(rt, phase, waiting, vector)?;
+        let mut session = with_waiting(phase, waiting);
+        let refusal = vcpu_inject_interrupt(&mut session.bytes, vector);
+        print_line(
+            rt,
+            "inject_interrupt",
+            &[phase.into(), waiting.into(), vector],
+            waiting_after(refusal, &session),
+        )?;
     }
     Ok(())
 }
 
 // ---- Entry.
 
-// Resumed, what was done with the event, the entries and the held ones are printed.
-fn print_entry(rt: &impl Print, bytes: &mut [u8; Record::LENGTH]) -> io::Result<()> {
-    let mut resumed: u8 = 0;
-    let mut injection: u8 = 0;
-    let refusal = x86_vcpu::session::vcpu_entry(bytes, 0, &mut resumed, &mut injection);
-    let c = crate::counts_of(bytes);
-    replay::print_answer(
+// Resumed, what was done with the event, the entries and the held ones.
+fn entered(session: &mut HeldSession) -> Result<[u64; 4], u32> {
+    let entry = session.enter()?;
+    let after = crate::counts_of(session)?;
+    Ok([
+        entry.resumed.into(),
+        entry.injection.into(),
+        after.entries.into(),
+        after.held.into(),
+    ])
+}
+
+fn empty_entry(rt: &impl Print, launched: u8) -> io::Result<()> {
+    let mut session = HeldSession::in_phase(Phase::READY);
+    session.bytes[Record::LAUNCHED] = launched;
+    print_line(
         rt,
-        refusal,
-        &[resumed as u64, injection as u64, c.entries, c.held],
+        "entry, none waiting",
+        &[launched.into()],
+        entered(&mut session),
     )
 }
 
 // One event waits.
-fn entry(
-    rt: &impl Print,
-    phase: u8,
-    entries: u32,
-    vector: u8,
-    rflags: u64,
-    interruptibility: u64,
-) -> io::Result<()> {
-    let mut bytes = [0u8; Record::LENGTH];
-    x86_vcpu::session::vcpu_queue_event(&mut bytes, vector, 0, 0);
-    crate::write(&mut bytes, RFLAGS, rflags);
-    crate::write(&mut bytes, INTERRUPTIBILITY, interruptibility);
-    crate::put1(&mut bytes, Record::PHASE, phase);
-    crate::put4(&mut bytes, Record::ENTRIES, entries);
-    replay::print_call(
-        rt,
-        b"entry",
-        &[
-            phase as u64,
-            entries as u64,
-            vector as u64,
-            rflags,
-            interruptibility,
-        ],
-    )?;
-    print_entry(rt, &mut bytes)
-}
-
-fn empty_entry(rt: &impl Print, launched: u8) -> io::Result<()> {
-    let mut bytes = crate::in_phase(Phase::READY);
-    crate::put1(&mut bytes, Record::LAUNCHED, launched);
-    replay::print_call(rt, b"entry, none waiting", &[launched as u64])?;
-    print_entry(rt, &mut bytes)
-}
-
 pub fn entries(rt: &impl Print) -> io::Result<()> {
     empty_entry(rt, 0)?;
     empty_entry(rt, 1)?;
@@ -189,27 +158,41 @@ pub fn entries(rt: &impl Print) -> io::Result<()> {
         (1, 0xFFFF_FFFF, 31, 0, 0),
         (0, 0xFFFF_FFFF, 31, 0, 0),
     ] {
-        entry(rt, phase, entries, vector, rflags, interruptibility)?;
+        let mut session = HeldSession::in_phase(Phase::FRESH);
+        vcpu_queue_event(&mut session.bytes, vector, 0, 0);
+        let _ = session.write_field(RFLAGS, rflags);
+        let _ = session.write_field(INTERRUPTIBILITY, interruptibility);
+        session.bytes[Record::PHASE] = phase;
+        u32::put(&mut session.bytes, Record::ENTRIES, entries);
+        let arguments = [
+            phase.into(),
+            entries.into(),
+            vector.into(),
+            rflags,
+            interruptibility,
+        ];
+        print_line(rt, "entry", &arguments, entered(&mut session))?;
     }
     Ok(())
 }
 
 // ---- The APIC value: the phase, RAX and RDX are printed.
 
-fn apic_value(rt: &impl Print, phase: u8, value: u64) -> io::Result<()> {
-    let mut bytes = crate::in_phase(phase);
-    let refusal = x86_vcpu::session::vcpu_apic_value(&mut bytes, value);
-    let mut rax: u64 = 0;
-    let mut rdx: u64 = 0;
-    x86_vcpu::readings::vcpu_get_reg_of_index(&bytes, 0, &mut rax);
-    x86_vcpu::readings::vcpu_get_reg_of_index(&bytes, 2, &mut rdx);
-    replay::print_call(rt, b"apic_value", &[phase as u64, value])?;
-    replay::print_answer(rt, refusal, &[crate::phase_of(&bytes), rax, rdx])
+fn with_apic_value(session: &mut HeldSession, value: u64) -> Result<[u64; 3], u32> {
+    answered(vcpu_apic_value(&mut session.bytes, value), ())?;
+    Ok([
+        crate::counts_of(session)?.phase.into(),
+        session.read_register(RAX)?,
+        session.read_register(RDX)?,
+    ])
 }
 
 pub fn apic_values(rt: &impl Print) -> io::Result<()> {
-    for phase in [2, 3, 4] {
-        apic_value(rt, phase, 0x1122_3344_5566_7788)?;
+    let value = 0x1122_3344_5566_7788;
+    for phase in [Phase::RUNNING, Phase::WAITING, Phase::ENDED] {
+        let mut session = HeldSession::in_phase(phase);
+        let answer = with_apic_value(&mut session, value);
+        print_line(rt, "apic_value", &[phase.into(), value], answer)?;
     }
     Ok(())
 }

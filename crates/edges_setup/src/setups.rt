@@ -1,57 +1,54 @@
 // Setup of a processor with TRUE words.
+use crate::Word;
 use blocks::setup::Layout;
-use record::{Record, words};
+use host_calls::HeldSession;
+use record::Record;
+use replay::print_line;
 use std::io;
+use vcpu_session::Phase;
 
-fn phase_of(bytes: &[u8; Record::LENGTH]) -> u64 {
-    words::get1(bytes, Record::PHASE) as u64
+// Sets a session up in a phase: its phase after that.
+fn phase_after(phase: u8, block: &[u8; Layout::LENGTH]) -> Result<[u64; 1], u32> {
+    let mut session = HeldSession::in_phase(phase);
+    crate::set_up(&mut session, block)?;
+    Ok([session.bytes[Record::PHASE].into()])
 }
 
-// Sets a session up in a phase, and prints its phase.
-fn print_setup(rt: &impl Print, block: &[u8; Layout::LENGTH], phase: u8) -> io::Result<()> {
-    let mut bytes = crate::in_phase(phase);
-    let refusal = crate::set_up(&mut bytes, block);
-    replay::print_answer(rt, refusal, &[phase_of(&bytes)])
-}
-
-// Two words of the block changed, by their offsets.
-fn setup(
-    rt: &impl Print,
-    phase: u8,
-    first: usize,
-    value: u64,
-    second: usize,
-    other: u64,
-) -> io::Result<()> {
-    let mut block = crate::usual();
-    crate::put(&mut block, first, value);
-    crate::put(&mut block, second, other);
-    replay::print_call(
+// Two words of the block changed.
+fn setup(rt: &impl Print, phase: u8, first: Word, second: Word) -> io::Result<()> {
+    let block = crate::block_with(&[first, second]);
+    print_line(
         rt,
-        b"setup",
-        &[phase as u64, first as u64, value, second as u64, other],
-    )?;
-    print_setup(rt, &block, phase)
-}
-
-fn word(rt: &impl Print, offset: usize, value: u64) -> io::Result<()> {
-    setup(rt, 0, offset, value, offset, value)
+        "setup",
+        &[
+            phase.into(),
+            first.0 as u64,
+            first.1,
+            second.0 as u64,
+            second.1,
+        ],
+        phase_after(phase, &block),
+    )
 }
 
 // A yes/no byte of the block.
-fn flag(rt: &impl Print, offset: usize, value: u8) -> io::Result<()> {
-    let mut block = crate::usual();
-    if offset < Layout::LENGTH {
-        words::put1(&mut block, offset, value);
+fn flag(rt: &impl Print, at: usize, value: u8) -> io::Result<()> {
+    let mut block = crate::block_with(&[]);
+    if let Some(byte) = block.get_mut(at) {
+        *byte = value;
     }
-    replay::print_call(rt, b"setup, yes/no byte", &[offset as u64, value as u64])?;
-    print_setup(rt, &block, 0)
+    print_line(
+        rt,
+        "setup, yes/no byte",
+        &[at as u64, value.into()],
+        phase_after(Phase::FRESH, &block),
+    )
 }
 
 // For each word the last accepted and the first refused: allowed-0 outside allowed-1, fixed-0 outside fixed-1, a set bit outside allowed-1, a cleared
 // bit in allowed-0.
 fn words_alone(rt: &impl Print) -> io::Result<()> {
-    for (offset, value) in [
+    for word in [
         (Layout::TRUE_PINBASED_CTLS, 0x0000_001F_0000_0016),
         (Layout::TRUE_PINBASED_CTLS, 0x0000_001F_0000_0036),
         (Layout::TRUE_PINBASED_CTLS, 0x0000_001E_0000_0016),
@@ -73,50 +70,35 @@ fn words_alone(rt: &impl Print) -> io::Result<()> {
         (Layout::CR4_FIXED1, 0x2000),
         (Layout::CR4_FIXED1, 0x1FFF),
     ] {
-        word(rt, offset, value)?;
+        setup(rt, Phase::FRESH, word, word)?;
     }
     Ok(())
 }
 
+// 1 before 6; 6 of the last word before 8 of the first; 8 of pin before 9 of primary; 9 of primary before 8 of secondary.
+fn order(rt: &impl Print) -> io::Result<()> {
+    let no_cr4 = (Layout::CR4_FIXED1, 0);
+    let cr4_of_vmxe = (Layout::CR4_FIXED1, 0x2000);
+    let refused_pin = (Layout::TRUE_PINBASED_CTLS, 0x0000_001E_0000_0016);
+    let refused_primary = (Layout::TRUE_PROCBASED_CTLS, 0xFFF9_FFFE_0400_E172);
+    setup(rt, Phase::READY, cr4_of_vmxe, cr4_of_vmxe)?;
+    setup(rt, Phase::ENDED, no_cr4, no_cr4)?;
+    setup(rt, Phase::FRESH, refused_pin, no_cr4)?;
+    setup(rt, Phase::FRESH, refused_pin, refused_primary)?;
+    setup(
+        rt,
+        Phase::FRESH,
+        refused_primary,
+        (Layout::PROCBASED_CTLS2, 0),
+    )
+}
+
 pub fn setups(rt: &impl Print) -> io::Result<()> {
     words_alone(rt)?;
-    // 1 before 6; 6 of the last word before 8 of the first; 8 of pin before 9 of primary; 9 of primary before 8 of secondary.
-    for (phase, first, value, second, other) in [
-        (1, Layout::CR4_FIXED1, 0x2000, Layout::CR4_FIXED1, 0x2000),
-        (4, Layout::CR4_FIXED1, 0, Layout::CR4_FIXED1, 0),
-        (
-            0,
-            Layout::TRUE_PINBASED_CTLS,
-            0x0000_001E_0000_0016,
-            Layout::CR4_FIXED1,
-            0,
-        ),
-        (
-            0,
-            Layout::TRUE_PINBASED_CTLS,
-            0x0000_001E_0000_0016,
-            Layout::TRUE_PROCBASED_CTLS,
-            0xFFF9_FFFE_0400_E172,
-        ),
-        (
-            0,
-            Layout::TRUE_PROCBASED_CTLS,
-            0xFFF9_FFFE_0400_E172,
-            Layout::PROCBASED_CTLS2,
-            0,
-        ),
-    ] {
-        setup(rt, phase, first, value, second, other)?;
-    }
-    for (offset, value) in [
-        (Layout::RDTSCP, 1),
-        (Layout::RDTSCP, 2),
-        (Layout::INVPCID, 1),
-        (Layout::INVPCID, 2),
-        (Layout::XSAVES, 1),
-        (Layout::XSAVES, 2),
-    ] {
-        flag(rt, offset, value)?;
+    order(rt)?;
+    for at in [Layout::RDTSCP, Layout::INVPCID, Layout::XSAVES] {
+        flag(rt, at, 1)?;
+        flag(rt, at, 2)?;
     }
     Ok(())
 }

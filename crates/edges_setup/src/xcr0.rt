@@ -1,120 +1,118 @@
 // XCR0: setup brings the supported bits, and the report of an XSETBV the value.
 use blocks::report::Layout;
 use blocks::setup;
-use record::{Record, words};
+use definitions::exit_reason::VmxExitReason;
+use host_calls::{HeldSession, report_block};
+use record::Record;
+use record::words::Stored;
+use replay::{answered, print_line};
 use std::io;
+use vcpu_session::Phase;
+use x86_vcpu::readings::vcpu_get_xcr0;
 
-fn xcr0_of(bytes: &[u8; Record::LENGTH]) -> u64 {
+const GUEST_RIP: u64 = 0x681E;
+
+fn xcr0_of(session: &HeldSession) -> Result<u64, u32> {
     let mut xcr0: u64 = 0;
-    x86_vcpu::readings::vcpu_get_xcr0(bytes, &mut xcr0);
-    xcr0
+    let refusal = vcpu_get_xcr0(&session.bytes, &mut xcr0);
+    answered(refusal, xcr0)
 }
 
-fn rip_of(bytes: &[u8; Record::LENGTH]) -> u64 {
-    let mut rip: u64 = 0;
-    x86_vcpu::readings::vcpu_read_field(bytes, 0x681E, &mut rip);
-    rip
-}
-
-// Setup with these supported bits.
-fn set_up(bytes: &mut [u8; Record::LENGTH], supported: u64) {
-    let mut block = crate::usual();
-    crate::put(&mut block, setup::Layout::XCR0_SUPPORTED, supported);
-    crate::set_up(bytes, &block);
-}
-
-// The reading, of a record in a phase that holds this value.
+// Of a record in a phase that holds this value.
 fn reading(rt: &impl Print, phase: u8, value: u64) -> io::Result<()> {
-    let mut bytes = crate::in_phase(phase);
-    words::put8(&mut bytes, Record::XCR0, value);
-    let mut xcr0: u64 = 0;
-    let refusal = x86_vcpu::readings::vcpu_get_xcr0(&bytes, &mut xcr0);
-    replay::print_call(rt, b"get_xcr0", &[phase as u64, value])?;
-    replay::print_answer(rt, refusal, &[xcr0])
+    let mut session = HeldSession::in_phase(phase);
+    u64::put(&mut session.bytes, Record::XCR0, value);
+    print_line(
+        rt,
+        "get_xcr0",
+        &[phase.into(), value],
+        xcr0_of(&session).map(|xcr0| [xcr0]),
+    )
 }
 
-fn enter(bytes: &mut [u8; Record::LENGTH]) {
-    let mut resumed: u8 = 0;
-    let mut injection: u8 = 0;
-    x86_vcpu::session::vcpu_entry(bytes, 0, &mut resumed, &mut injection);
-}
-
-// The report of an XSETBV with RDX, RAX, RCX and RIP, and a length that the instruction never has.
-fn block_of(rdx: u64, rax: u64, rcx: u64, rip: u64) -> [u8; Layout::LENGTH] {
-    let mut block = [0u8; Layout::LENGTH];
-    words::put8(&mut block, Layout::REGS, rax);
-    words::put8(&mut block, Layout::REGS + 8, rcx);
-    words::put8(&mut block, Layout::REGS + 16, rdx);
-    words::put8(&mut block, Layout::RIP, rip);
-    words::put8(&mut block, Layout::CR0, 0x30);
-    words::put8(&mut block, Layout::CR4, 0x2000);
-    words::put4(&mut block, Layout::REASON, 55);
-    words::put4(&mut block, Layout::INSTRUCTION_LENGTH, 9);
-    block
-}
-
-// The answer's number, XCR0 and RIP after a report.
-fn print_report(
-    rt: &impl Print,
-    bytes: &mut [u8; Record::LENGTH],
-    block: &[u8; Layout::LENGTH],
-) -> io::Result<()> {
-    let mut answer = [0u64; 8];
-    let refusal = x86_vcpu::report::vcpu_exit_report(bytes, block, &mut answer);
-    replay::print_answer(rt, refusal, &[answer[0], xcr0_of(bytes), rip_of(bytes)])
-}
-
-fn xsetbv(
-    rt: &impl Print,
-    supported: u64,
+// What the guest has at an XSETBV.
+#[derive(Clone, Copy)]
+struct Xsetbv {
     rdx: u64,
     rax: u64,
     rcx: u64,
     rip: u64,
-) -> io::Result<()> {
-    let mut bytes = crate::in_phase(0);
-    set_up(&mut bytes, supported);
-    enter(&mut bytes);
-    let block = block_of(rdx, rax, rcx, rip);
-    replay::print_call(rt, b"exit_report, XSETBV", &[supported, rdx, rax, rcx, rip])?;
-    print_report(rt, &mut bytes, &block)
 }
 
-// EDX:EAX alone.
-fn value(rt: &impl Print, supported: u64, value: u64) -> io::Result<()> {
-    xsetbv(rt, supported, value >> 32, value % 0x1_0000_0000, 0, 0x1000)
-}
-
-fn x87_sse_avx(rt: &impl Print) -> io::Result<()> {
-    for xcr0 in [1, 3, 7, 0, 2, 5, 6] {
-        value(rt, 7, xcr0)?;
+impl Xsetbv {
+    // EDX:EAX alone.
+    fn of_value(value: u64) -> Self {
+        Xsetbv {
+            rdx: value >> 32,
+            rax: value % 0x1_0000_0000,
+            rcx: 0,
+            rip: 0x1000,
+        }
     }
-    Ok(())
+
+    // The report, with a length that the instruction never has.
+    fn block(self) -> [u8; Layout::LENGTH] {
+        let mut block = report_block(VmxExitReason::XSETBV as u32);
+        u64::put(&mut block, Layout::REGS, self.rax);
+        u64::put(&mut block, Layout::REGS + 8, self.rcx);
+        u64::put(&mut block, Layout::REGS + 16, self.rdx);
+        u64::put(&mut block, Layout::RIP, self.rip);
+        u64::put(&mut block, Layout::CR0, 0x30);
+        u64::put(&mut block, Layout::CR4, 0x2000);
+        u32::put(&mut block, Layout::INSTRUCTION_LENGTH, 9);
+        block
+    }
 }
 
-fn mpx(rt: &impl Print) -> io::Result<()> {
+// The answer's number, XCR0 and RIP after a report.
+fn reported(session: &mut HeldSession, block: &[u8; Layout::LENGTH]) -> Result<[u64; 3], u32> {
+    let answer = session.report(block)?;
+    Ok([answer[0], xcr0_of(session)?, session.read_field(GUEST_RIP)?])
+}
+
+// A session that is set up with these supported bits, and entered.
+fn print_xsetbv(rt: &impl Print, supported: u64, guest: Xsetbv) -> io::Result<()> {
+    let mut session = HeldSession::in_phase(Phase::FRESH);
+    let block = crate::block_with(&[(setup::Layout::XCR0_SUPPORTED, supported)]);
+    let _ = crate::set_up(&mut session, &block);
+    let _ = session.enter();
+    print_line(
+        rt,
+        "exit_report, XSETBV",
+        &[supported, guest.rdx, guest.rax, guest.rcx, guest.rip],
+        reported(&mut session, &guest.block()),
+    )
+}
+
+fn values(rt: &impl Print) -> io::Result<()> {
     for (supported, xcr0) in [
+        // x87, SSE and AVX
+        (7, 1),
+        (7, 3),
+        (7, 7),
+        (7, 0),
+        (7, 2),
+        (7, 5),
+        (7, 6),
+        // MPX
         (7, 0xF),
         (0x1F, 0x19),
         (0x1F, 0x1F),
         (0x1F, 0x9),
         (0x1F, 0x11),
+        // AVX-512
+        (0xE7, 0xE7),
+        (0xE7, 0xE3),
+        (0xE7, 0x27),
+        (0xE7, 0xC7),
+        (0xE7, 0xA7),
+        (0xE7, 0x67),
+        // AMX
+        (0x6_0007, 0x6_0001),
+        (0x6_0007, 0x2_0001),
+        (0x6_0007, 0x4_0001),
     ] {
-        value(rt, supported, xcr0)?;
-    }
-    Ok(())
-}
-
-fn avx512(rt: &impl Print) -> io::Result<()> {
-    for xcr0 in [0xE7, 0xE3, 0x27, 0xC7, 0xA7, 0x67] {
-        value(rt, 0xE7, xcr0)?;
-    }
-    Ok(())
-}
-
-fn amx(rt: &impl Print) -> io::Result<()> {
-    for xcr0 in [0x6_0001, 0x2_0001, 0x4_0001] {
-        value(rt, 0x6_0007, xcr0)?;
+        print_xsetbv(rt, supported, Xsetbv::of_value(xcr0))?;
     }
     Ok(())
 }
@@ -130,7 +128,7 @@ fn supported_alone(rt: &impl Print) -> io::Result<()> {
         (6, 1),
         (0, 1),
     ] {
-        value(rt, supported, xcr0)?;
+        print_xsetbv(rt, supported, Xsetbv::of_value(xcr0))?;
     }
     Ok(())
 }
@@ -145,7 +143,7 @@ fn registers_and_rip(rt: &impl Print) -> io::Result<()> {
         (0, 3, 0, 0xFFFF_FFFF_FFFF_FFFD),
         (0, 2, 0, 0xFFFF_FFFF_FFFF_FFFD),
     ] {
-        xsetbv(rt, 7, rdx, rax, rcx, rip)?;
+        print_xsetbv(rt, 7, Xsetbv { rdx, rax, rcx, rip })?;
     }
     Ok(())
 }
@@ -154,10 +152,7 @@ pub fn xcr0(rt: &impl Print) -> io::Result<()> {
     for (phase, value) in [(0, 0), (0, 0xFFFF_FFFF_FFFF_FFFE), (4, 2), (5, 1)] {
         reading(rt, phase, value)?;
     }
-    x87_sse_avx(rt)?;
-    mpx(rt)?;
-    avx512(rt)?;
-    amx(rt)?;
+    values(rt)?;
     supported_alone(rt)?;
     registers_and_rip(rt)
 }

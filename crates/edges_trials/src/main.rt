@@ -10,15 +10,9 @@ use std::io;
 // What the second buffers hold before a trial.
 const BEFORE: u8 = 0xEE;
 
-fn wide(byte: u8) -> u64 {
-    byte as u64
-}
-
+// The byte at a place, or 0 past the end.
 fn byte_at(bytes: &[u8], at: usize) -> u64 {
-    if at < bytes.len() {
-        return wide(bytes[at]);
-    }
-    0
+    bytes.get(at).map_or(0, |byte| u64::from(*byte))
 }
 
 fn main(rt: HostRuntime) -> io::Result<()> {

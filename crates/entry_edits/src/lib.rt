@@ -5,12 +5,13 @@
 
 ghost use Rattle.std.specs.Prelude.{◌≡◌, true, ℕ, ◌<◌};
 ghost use Rattle.vcpu_session.specs.Session.{LAST_ENTRY, with_vmcs, with_queue};
-ghost use Rattle.vcpu_events.specs.Queue.{front_of};
+ghost use Rattle.vcpu_events.specs.Queue.{event_of, given, front_of};
 ghost use Rattle.vcpu_events.specs.Entry.{injection_of, code_goes_in, word_of, code_of, with_code, with_length, injected, with_stack, window_set, vmcs_after, queue_after, after_entry, entry};
-ghost use Rattle.record.specs.Codec.{session_of, accepted_of};
-ghost use Rattle.record_edits.specs.Holds.{Holds};
+ghost use Rattle.record_edits.specs.Edited.{session, Edited};
 
-use record::{Record, words};
+use record::Record;
+use record::words::Stored;
+use record_edits::SessionRecord;
 use vcpu_events::{Event, Injection};
 use vcpu_session::Phase;
 use vmcs::flags::PrimaryControls;
@@ -18,31 +19,29 @@ use vmcs::names::{VmcsControl32, VmcsGuest32, VmcsGuestNW, VmcsHostNW, VmcsReadO
 
 // ---- What an entry reads.
 
-// The front of the queue.
+// The front of the queue: the record's code where the queue says that it has one.
 #[tactic(auto, unfolding(record::specs::Codec::session_of))]
-fn front_at(b: &[u8]) -> Event
-    requires { accepted_of b.now ≡ true }
-    ensures { result ≡ front_of (session_of b.now).queue }
+fn front_at(b: &SessionRecord) -> Event
+    ensures { result ≡ given (front_of (session b.now).queue) }
 {
+    let bytes = b.bytes();
     Event {
-        vector: words::get1(b, Record::VECTORS),
-        coded: record::coded_at(b) % 2 == 1,
-        code: words::get4(b, Record::CODES),
+        vector: u8::get(bytes, Record::VECTORS),
+        code: (record::coded_at(bytes) % 2 == 1).then_some(u32::get(bytes, Record::CODES)),
     }
 }
 
 // What the next entry does with the front of the queue.
 #[tactic(auto, unfolding(vcpu_events::specs::Entry::injection_of))]
-pub fn injection_at(b: &[u8]) -> Injection
-    requires { accepted_of b.now ≡ true }
-    ensures { result ≡ injection_of (session_of b.now).queue (session_of b.now).vmcs }
+pub fn injection_at(b: &SessionRecord) -> Injection
+    ensures { result ≡ injection_of (session b.now).queue (session b.now).vmcs }
 {
-    if record::waiting_at(b) == 0 {
+    if b.waiting() == 0 {
         return Injection::Empty;
     }
     let front = front_at(b);
-    let rflags = record::natural_at(b, VmcsGuestNW::RFLAGS);
-    let interruptibility = record::w32_at(b, VmcsGuest32::INTERRUPTIBILITY_STATE);
+    let rflags = record::natural_at(b.bytes(), VmcsGuestNW::RFLAGS);
+    let interruptibility = record::w32_at(b.bytes(), VmcsGuest32::INTERRUPTIBILITY_STATE);
     if vcpu_events::is_held(front.vector, rflags, interruptibility) {
         return Injection::Held;
     }
@@ -52,114 +51,95 @@ pub fn injection_at(b: &[u8]) -> Injection
 // ---- Injecting.
 
 // Whether an error code goes in with an event: CR0 is the session's at the entry.
-fn code_goes_in_at(b: &[u8], e: Event) -> bool
-    requires { accepted_of b.now ≡ true }
-    ensures { result ≡ code_goes_in (session_of b.now).vmcs e }
+fn code_goes_in_at(b: &SessionRecord, e: Event) -> bool
+    ensures { result ≡ code_goes_in (session b.now).vmcs (event_of e) }
 {
-    vcpu_events::code_goes_in(e.vector, record::natural_at(b, VmcsGuestNW::CR0))
+    vcpu_events::code_goes_in(e.vector, record::natural_at(b.bytes(), VmcsGuestNW::CR0))
 }
 
 // The word that an entry writes for an event.
-fn word_at(b: &[u8], e: Event) -> u32
-    requires { accepted_of b.now ≡ true }
-    ensures { result ≡ word_of (session_of b.now).vmcs e }
+fn word_at(b: &SessionRecord, e: Event) -> u32
+    ensures { result ≡ word_of (session b.now).vmcs (event_of e) }
 {
     definitions::event_word(e.vector, code_goes_in_at(b, e))
 }
 
 // The error code that goes in with an event: the caller's, else the exit's.
 #[tactic(auto, unfolding(vcpu_events::specs::Entry::code_of))]
-fn code_at(b: &[u8], e: Event) -> u32
-    requires { accepted_of b.now ≡ true }
-    ensures { result ≡ code_of (session_of b.now).vmcs e }
+fn code_at(b: &SessionRecord, e: Event) -> u32
+    ensures { result ≡ code_of (session b.now).vmcs (event_of e) }
 {
-    if e.coded {
-        return e.code;
+    match e.code {
+        Some(code) => code,
+        None => record::w32_at(b.bytes(), VmcsReadOnly32::VMEXIT_INTERRUPTION_ERR_CODE),
     }
-    record::w32_at(b, VmcsReadOnly32::VMEXIT_INTERRUPTION_ERR_CODE)
 }
 
 // Where no code goes in, the field is kept.
 #[tactic(auto, unfolding(vcpu_events::specs::Entry::with_code))]
-fn put_code(b: &mut [u8], e: Event)
-    requires { accepted_of b.old ≡ true }
-    ensures { Holds b.new (with_vmcs (session_of b.old) (with_code (session_of b.old).vmcs e)) }
+fn put_code(b: &mut SessionRecord, e: Event)
+    ensures { Edited b.old b.new (λ s. with_vmcs s (with_code s.vmcs (event_of e))) }
 {
     if code_goes_in_at(b, e) {
         let code = code_at(b, e);
-        record_edits::put_w32(b, VmcsControl32::VMENTRY_EXCEPTION_ERR_CODE, code);
-        return;
+        b.put_w32(VmcsControl32::VMENTRY_EXCEPTION_ERR_CODE, code);
     }
 }
 
 // Soft types copy the exit instruction length.
 #[tactic(auto, unfolding(vcpu_events::specs::Entry::with_length))]
-fn put_length(b: &mut [u8], e: Event)
-    requires { accepted_of b.old ≡ true }
-    ensures { Holds b.new (with_vmcs (session_of b.old) (with_length (session_of b.old).vmcs e)) }
+fn put_length(b: &mut SessionRecord, e: Event)
+    ensures { Edited b.old b.new (λ s. with_vmcs s (with_length s.vmcs (event_of e))) }
 {
     if definitions::is_soft(definitions::from_vector(e.vector)) {
-        let length = record::w32_at(b, VmcsReadOnly32::VMEXIT_INSTRUCTION_LEN);
-        record_edits::put_w32(b, VmcsControl32::VMENTRY_INSTRUCTION_LEN, length);
-        return;
+        let length = record::w32_at(b.bytes(), VmcsReadOnly32::VMEXIT_INSTRUCTION_LEN);
+        b.put_w32(VmcsControl32::VMENTRY_INSTRUCTION_LEN, length);
     }
 }
 
 // The fields with an event to inject (`inject_event`).
 #[tactic(auto, unfolding(vcpu_events::specs::Entry::injected))]
-fn inject_event(b: &mut [u8], e: Event)
-    requires { accepted_of b.old ≡ true }
-    ensures { Holds b.new (with_vmcs (session_of b.old) (injected (session_of b.old).vmcs e)) }
+fn inject_event(b: &mut SessionRecord, e: Event)
+    ensures { Edited b.old b.new (λ s. with_vmcs s (injected s.vmcs (event_of e))) }
 {
     let word = word_at(b, e);
     put_code(b, e);
     put_length(b, e);
-    record_edits::put_w32(b, VmcsControl32::VMENTRY_INTERRUPTION_INFO_FIELD, word);
+    b.put_w32(VmcsControl32::VMENTRY_INTERRUPTION_INFO_FIELD, word);
 }
 
 // ---- Entry.
 
 // The host's stack goes in at the first entry only.
 #[tactic(auto, unfolding(vcpu_events::specs::Entry::with_stack))]
-fn put_stack(b: &mut [u8], launched: bool, stack: u64)
-    requires { accepted_of b.old ≡ true }
-    ensures { Holds b.new (with_vmcs (session_of b.old) (with_stack (session_of b.old).vmcs launched stack)) }
+fn put_stack(b: &mut SessionRecord, launched: bool, stack: u64)
+    ensures { Edited b.old b.new (λ s. with_vmcs s (with_stack s.vmcs launched stack)) }
 {
-    if launched {
-        return;
+    if !launched {
+        b.put_natural(VmcsHostNW::RSP, stack);
     }
-    record_edits::put_natural(b, VmcsHostNW::RSP, stack);
 }
 
 const INTERRUPT_WINDOW_EXITING: u32 = 1 << PrimaryControls::INTERRUPT_WINDOW_EXITING;
 
 // Interrupt-window exiting on or off.
 #[tactic(auto, unfolding(vcpu_events::specs::Entry::window_set))]
-pub fn set_interrupt_window(b: &mut [u8], enable: bool)
-    requires { accepted_of b.old ≡ true }
-    ensures { Holds b.new (with_vmcs (session_of b.old) (window_set (session_of b.old).vmcs enable)) }
+pub fn set_interrupt_window(b: &mut SessionRecord, enable: bool)
+    ensures { Edited b.old b.new (λ s. with_vmcs s (window_set s.vmcs enable)) }
 {
-    let word = record::w32_at(b, VmcsControl32::PRIMARY_PROCBASED_EXEC_CONTROLS);
-    if enable {
-        record_edits::put_w32(
-            b,
-            VmcsControl32::PRIMARY_PROCBASED_EXEC_CONTROLS,
-            word | INTERRUPT_WINDOW_EXITING,
-        );
-        return;
-    }
-    record_edits::put_w32(
-        b,
-        VmcsControl32::PRIMARY_PROCBASED_EXEC_CONTROLS,
-        word & !INTERRUPT_WINDOW_EXITING,
-    );
+    let word = record::w32_at(b.bytes(), VmcsControl32::PRIMARY_PROCBASED_EXEC_CONTROLS);
+    let next = if enable {
+        word | INTERRUPT_WINDOW_EXITING
+    } else {
+        word & !INTERRUPT_WINDOW_EXITING
+    };
+    b.put_w32(VmcsControl32::PRIMARY_PROCBASED_EXEC_CONTROLS, next);
 }
 
 // What an entry writes for the front of the queue: nothing, interrupt-window exiting, or the event.
 #[tactic(auto, unfolding(vcpu_events::specs::Entry::vmcs_after))]
-fn put_injection(b: &mut [u8], e: Event, injection: Injection)
-    requires { accepted_of b.old ≡ true }
-    ensures { Holds b.new (with_vmcs (session_of b.old) (vmcs_after (session_of b.old).vmcs e injection)) }
+fn put_injection(b: &mut SessionRecord, e: Event, injection: Injection)
+    ensures { Edited b.old b.new (λ s. with_vmcs s (vmcs_after s.vmcs (event_of e) injection)) }
 {
     match injection {
         Injection::Empty => {}
@@ -170,28 +150,27 @@ fn put_injection(b: &mut [u8], e: Event, injection: Injection)
 
 // The front leaves the queue only where it is written.
 #[tactic(auto, unfolding(vcpu_events::specs::Entry::queue_after))]
-fn pop_written(b: &mut [u8], injection: Injection)
-    requires { accepted_of b.old ≡ true }
-    ensures { Holds b.new (with_queue (session_of b.old) (queue_after (session_of b.old).queue injection)) }
+fn pop_written(b: &mut SessionRecord, injection: Injection)
+    ensures { Edited b.old b.new (λ s. with_queue s (queue_after s.queue injection)) }
 {
     match injection {
         Injection::Empty => {}
         Injection::Held => {}
-        Injection::Written => record_edits::pop_front(b),
+        Injection::Written => b.pop_front(),
     }
 }
 
 // The record after an accepted entry, which does `injection` with the front of the queue. The front is read before any byte is written.
 #[tactic(auto, unfolding(vcpu_events::specs::Entry::after_entry))]
-pub fn after_entry(b: &mut [u8], stack: u64, injection: Injection)
-    requires { (accepted_of b.old ≡ true) × ((session_of b.old).progress.entries < LAST_ENTRY) }
-    ensures { Holds b.new (after_entry (session_of b.old) stack injection) }
+pub fn after_entry(b: &mut SessionRecord, stack: u64, injection: Injection)
+    requires { (session b.old).progress.entries < LAST_ENTRY }
+    ensures { Edited b.old b.new (λ s. after_entry s stack injection) }
 {
-    let p = record::progress_at(b);
+    let p = b.progress();
     let front = front_at(b);
     let next = vcpu_events::progress_after(p, injection);
     put_stack(b, p.launched, stack);
     put_injection(b, front, injection);
     pop_written(b, injection);
-    record_edits::put_progress(b, next);
+    b.put_progress(next);
 }

@@ -1,6 +1,7 @@
 // What every list of calls comes to is a theorem about the steps of a list (crate `calls`), and what every list of edits of intercepts comes to is one about edits
 // (crate `intercepts`). The functions here tie these steps and edits to the exported functions: each calls one of them and ensures its step, so that a contract that
 // says less than the step is refused. Nothing calls these.
+// Each name that C calls has a function of its own, also where three differ in a constant alone.
 #![tactic(auto)]
 
 ghost use Rattle.std.specs.Prelude.{◌≡◌};

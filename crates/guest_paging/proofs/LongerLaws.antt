@@ -2,33 +2,20 @@
 use Prim.Native.Nat.{ℕ, zero, suc, ◌+◌, ◌≤◌}
 use mathlib.Core.Path.{◌≡◌, refl, ap}
 use mathlib.Core.Bool.{Bool, true, false, cond}
-use mathlib.Core.List.{List, [], ◌∷◌, ◌++◌}
+use mathlib.Core.List.{List, ◌++◌}
 use mathlib.Core.Logic.{◌≢◌}
 use native.Mathlib.Omega.{arith}
 use borrow.Author.Tests.{ltb-false, le-ltb}
 use lib.Dec.{eqb, ltb}
-use lib.ListN.{length, take, drop}
-use Rattle.bits.specs.LittleEndian.{little_endian, number_of}
+use lib.ListN.{length, drop}
+use Rattle.std.proofs.lemmas.List.{take-append-le, drop-append-le, length-append, length-drop}
+use Rattle.bits.specs.LittleEndian.{little_endian}
 use Rattle.vcpu_readings.specs.declared.GuestPageWalkInfo.{GuestPageWalkInfo}
-use Rattle.guest_paging.specs.declared.Walked.{Walked}
-use Rattle.guest_paging.specs.declared.Walked.TheVariants.{Address, Refused}
-use Rattle.guest_paging.specs.declared.Next.{Next}
-use Rattle.guest_paging.specs.declared.Next.TheVariants.{Ends, Below}
+use Rattle.guest_paging.specs.Walked.{Walked, Address, Refused, Next, Ends, Below}
 use Rattle.guest_paging.specs.Walk.{entry_size, entry_at, place_of, entry_gives, level_gives, gone_on, walk_from, cut_address, top_table, page_walk_of}
 
-length_more : (m more : List ℕ) → length m ≤ length (m ++ more)
-length_more [] more = omega arith
-length_more (x ∷ m) more = omega (arith, length_more m more)
-
-take_more : (k : ℕ) (m more : List ℕ) → k ≤ length m → take k (m ++ more) ≡ take k m
-take_more zero m more h = refl
-take_more (suc k) [] more h = absurd (omega arith)
-take_more (suc k) (x ∷ m) more h = ap (x ∷◌) (take_more k m more (omega arith))
-
 part_more : (k at : ℕ) (m more : List ℕ) → at + k ≤ length m → little_endian k (drop at (m ++ more)) ≡ little_endian k (drop at m)
-part_more k zero m more h = ap number_of (take_more k m more (omega arith))
-part_more k (suc at) [] more h = absurd (omega arith)
-part_more k (suc at) (x ∷ m) more h = part_more k at m more (omega arith)
+part_more k at m more h = rw (drop-append-le at m more (omega arith), take-append-le k (drop at m) more (omega (arith, length-drop at m)))
 
 entry_more : (m more : List ℕ) (at levels : ℕ) → at + entry_size levels ≤ length m → entry_at (m ++ more) at levels ≡ entry_at m at levels
 unfolding entry_at entry_size
@@ -53,7 +40,7 @@ level_more m more i a l t u = go (ltb (length m) (place_of i.level l a t + entry
     go true h n = absurd (n refl)
     go false h n =
         let k = ltb-false (length m) (at + entry_size i.level) h in
-        rw (le-ltb (length (m ++ more)) (at + entry_size i.level) (omega (arith, k, length_more m more)), entry_more m more at i.level k)
+        rw (le-ltb (length (m ++ more)) (at + entry_size i.level) (omega (arith, k, length-append m more)), entry_more m more at i.level k)
 
 -- of two steps with the same answer, the second is the first, or goes on as it does
 gone_on_lem : (s : Next) (f g : ℕ → Bool → Walked) → ((t : ℕ) (u : Bool) → f t u ≢ Refused 26 → g t u ≡ f t u) → gone_on s f ≢ Refused 26 → gone_on s g ≡ gone_on s f

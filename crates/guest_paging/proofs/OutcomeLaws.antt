@@ -12,9 +12,7 @@ use Rattle.bits.specs.LittleEndian.{Below as BelowAll}
 use Rattle.bits.specs.Refuses.{or_else, Refuses}
 use Rattle.bits.proofs.Tells.{Tells, cond_all, refuses_one, both_zero}
 use Rattle.vcpu_readings.specs.declared.GuestPageWalkInfo.{GuestPageWalkInfo}
-use Rattle.guest_paging.specs.declared.Walked.TheVariants.{Address, Fails, Refused}
-use Rattle.guest_paging.specs.declared.Next.{Next}
-use Rattle.guest_paging.specs.declared.Next.TheVariants.{Ends, Below}
+use Rattle.guest_paging.specs.Walked.{Address, Fails, Refused, Next, Ends, Below}
 use Rattle.guest_paging.specs.Walk.{entry_at, place_of, broken_rule, page_address, next_table, level_gives, gone_on, walk_from, top_table, cut_address}
 use Rattle.guest_paging.specs.Reference.{Kind, Met, Open, Made, entry_rules, page_rules, place, OfLevel, Meets, Top, Path, Judged, Outcome, reaches, fails, past}
 use Rattle.guest_paging.proofs.WalkLaws.{walk_step}

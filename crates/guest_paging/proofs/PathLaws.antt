@@ -10,10 +10,7 @@ use Rattle.bits.specs.Refuses.{or_else, Refuses}
 use Rattle.bits.proofs.LittleEndianLaws.{little_below, below_drop}
 use Rattle.bits.proofs.Tells.{Tells, tells_and}
 use Rattle.vcpu_readings.specs.declared.GuestPageWalkInfo.{GuestPageWalkInfo}
-use Rattle.guest_paging.specs.declared.Walked.{Walked}
-use Rattle.guest_paging.specs.declared.Walked.TheVariants.{Address, Fails, Refused}
-use Rattle.guest_paging.specs.declared.Next.{Next}
-use Rattle.guest_paging.specs.declared.Next.TheVariants.{Ends, Below}
+use Rattle.guest_paging.specs.Walked.{Walked, Address, Fails, Refused, Next, Ends, Below}
 use Rattle.guest_paging.specs.Walk.{entry_size, entry_at, place_of, is_page, broken_rule, passes_user, broken_at_page, page_address, at_page, next_table, entry_gives, level_gives, cut_address}
 use Rattle.guest_paging.specs.Reference.{Kind, Met, Open, Made, entry_rules, page_rules, place, OfLevel, Meets}
 use Rattle.guest_paging.proofs.WalkLaws.{level_past, level_within}

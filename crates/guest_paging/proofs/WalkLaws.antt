@@ -1,6 +1,6 @@
 -- Laws of the walk's definitions. Assumes nothing.
-use mathlib.Core.Path.{◌≡◌, refl, sym, ◌∙◌}
-use mathlib.Core.Bool.{Bool, true, false, cond, ◌&&◌}
+use mathlib.Core.Path.{◌≡◌, refl}
+use mathlib.Core.Bool.{Bool, true, false, cond}
 use mathlib.Core.List.{List}
 use Prim.Native.Nat.{ℕ, zero, suc, ◌+◌, ◌-◌, ◌/◌, ◌%◌, ◌^◌, ◌≤◌, ◌<◌}
 use native.Mathlib.Omega.{arith}
@@ -12,19 +12,8 @@ use lib.ListN.{length}
 use Rattle.vcpu_readings.specs.declared.GuestPageWalkInfo.{GuestPageWalkInfo}
 use Rattle.guest_paging.specs.Entry as Entry
 use Rattle.guest_paging.specs.Rule as Rule
-use Rattle.guest_paging.specs.declared.Walked.{Walked}
-use Rattle.guest_paging.specs.declared.Walked.TheVariants.{Fails, Refused}
-use Rattle.guest_paging.specs.declared.Next.{Next}
-use Rattle.guest_paging.specs.declared.Next.TheVariants.{Ends, Below}
-use Rattle.guest_paging.specs.Walk.{entry_size, entry_at, is_page, is_pae_top, reserved_bits, broken_right, broken_rule, passes_user, at_page, next_table, place_of, entry_gives, level_gives, gone_on, walk_from}
-
-pub size_most : (levels : ℕ) → entry_size levels ≤ 8
-unfolding entry_size
-size_most levels = go (eqb levels 2)
-  where
-    go : (b : Bool) → cond b 4 8 ≤ 8
-    go true = omega arith
-    go false = omega arith
+use Rattle.guest_paging.specs.Walked.{Walked, Refused, Next, Ends, Below}
+use Rattle.guest_paging.specs.Walk.{entry_size, entry_at, is_page, is_pae_top, reserved_bits, broken_right, broken_rule, next_table, place_of, entry_gives, level_gives, gone_on, walk_from}
 
 -- ---- the first rule that an entry breaks, by the answers of its parts
 
@@ -46,22 +35,6 @@ module _ (i : GuestPageWalkInfo) (level : ℕ) (page : Bool) (e : ℕ) where
       pub rule_right : t ≡ false → {r : ℕ} → r ≡ broken_right i e → r ≡ broken_rule i level page e
       unfolding broken_rule
       rule_right h {r} right = rw (ne_eqb (e / 2 ^ Entry.P % 2) 0 present, ← bits, eq-eqb (bit_and e m) 0 clear, ← top, h) right
-
--- ---- what an entry gives, by the answers of its parts
-
-module _ (i : GuestPageWalkInfo) (address level : ℕ) (user : Bool) (e : ℕ) {p : Bool} {r : ℕ} (page : p ≡ is_page i.level level i.pse e) (rule : r ≡ broken_rule i level p e) where
-  pub entry_fails : (r ≡ 0 → ⊥) → Ends (Fails level r) ≡ entry_gives i address level user e
-  unfolding entry_gives
-  entry_fails other = rw (← page, ← rule, ne_eqb r 0 other)
-
-  module _ (none : r ≡ 0) {u : Bool} (passes : u ≡ passes_user i.level level e) where
-    pub entry_page : p ≡ true → {w : Walked} → w ≡ at_page i address level e (user && u) → Ends w ≡ entry_gives i address level user e
-    unfolding entry_gives
-    entry_page taken {w} answer = rw (← page, ← rule, eq-eqb r 0 none, taken, answer, passes)
-
-    pub entry_below : p ≡ false → {t : ℕ} → t ≡ next_table e → Below t (user && u) ≡ entry_gives i address level user e
-    unfolding entry_gives
-    entry_below left {t} next = rw (← page, ← rule, eq-eqb r 0 none, left, next, passes)
 
 -- ---- one level
 
@@ -104,13 +77,3 @@ pub walk_step : (memory : List ℕ) (i : GuestPageWalkInfo) (address level table
 unfolding walk_from
 walk_step memory i address zero table user h = absurd (omega arith)
 walk_step memory i address (suc n) table user h = let e : suc n - 1 ≡ n = omega arith in rw e
-
-module _ (memory : List ℕ) (i : GuestPageWalkInfo) (address level table : ℕ) (user : Bool) (one : 1 ≤ level) {s : Next} (gives : s ≡ level_gives memory i address level table user) where
-  pub walk_ends : {w : Walked} → s ≡ Ends w → w ≡ walk_from memory i address level table user
-  walk_ends e = rw (walk_step memory i address level table user one, ← gives, e)
-
-  pub walk_goes_on : {t : ℕ} {u : Bool} {r : Walked} → s ≡ Below t u → r ≡ walk_from memory i address (level - 1) t u → r ≡ walk_from memory i address level table user
-  walk_goes_on e f = rw (walk_step memory i address level table user one, ← gives, e) f
-
-  pub table_below : {t : ℕ} {u : Bool} → s ≡ Below t u → (2 ≤ level) × (t < 2 ^ 52)
-  table_below e = level_below memory i address level table user one (sym gives ∙ e)

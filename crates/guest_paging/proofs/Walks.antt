@@ -15,8 +15,7 @@ use Rattle.vmcs.specs.Flags.EferFlags as EferFlags
 use Rattle.vcpu_readings.specs.declared.GuestPageWalkInfo.{GuestPageWalkInfo}
 use Rattle.vcpu_readings.specs.declared.PagingWords.{PagingWords}
 use Rattle.vcpu_readings.specs.Readings.{paging_level, walk_pse, page_walk}
-use Rattle.guest_paging.specs.declared.Walked.{Walked}
-use Rattle.guest_paging.specs.declared.Walked.TheVariants.{Address}
+use Rattle.guest_paging.specs.Walked.{Walked, Address}
 use Rattle.guest_paging.specs.Walk.{for_access, page_walk_of}
 use Rattle.guest_paging.specs.Reference.{Kind, OfLevel, Outcome, itself, reaches, fails, past}
 use Rattle.guest_paging.specs.Laws.{Levels, Reads, Walks}

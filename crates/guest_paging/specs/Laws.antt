@@ -3,8 +3,7 @@ use Rattle.std.specs.Prelude.{ℕ, suc, ◌%◌, ◌^◌, ◌≤◌, ◌<◌, �
 use Rattle.vcpu_readings.specs.declared.GuestPageWalkInfo.{GuestPageWalkInfo}
 use Rattle.guest_paging.specs.Walk.{page_walk_of}
 use Rattle.guest_paging.specs.Reference.{Met, Meets, Path, Outcome}
-use Rattle.guest_paging.specs.declared.Walked.{Walked}
-use Rattle.guest_paging.specs.declared.Walked.TheVariants.{Address, Refused}
+use Rattle.guest_paging.specs.Walked.{Walked, Address, Refused}
 
 -- how many levels a reading may have: none without paging, else those of 32-bit, PAE and 4-level paging
 abbrev pub Levels : ℕ → Type 0

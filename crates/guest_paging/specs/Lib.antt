@@ -2,6 +2,8 @@
 pub mod Access
 pub mod Rule
 pub mod Entry
+pub mod Walked
+pub mod Answer
 pub mod Walk
 pub mod Reference
 pub mod Laws

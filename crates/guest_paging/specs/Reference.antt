@@ -5,8 +5,7 @@ use Rattle.bits.specs.Words.{bit}
 use Rattle.bits.specs.LittleEndian.{little_endian}
 use Rattle.bits.specs.Refuses.{Rule, by, Refuses}
 use Rattle.vcpu_readings.specs.declared.GuestPageWalkInfo.{GuestPageWalkInfo}
-use Rattle.guest_paging.specs.declared.Walked.{Walked}
-use Rattle.guest_paging.specs.declared.Walked.TheVariants.{Address, Fails, Refused}
+use Rattle.guest_paging.specs.Walked.{Walked, Address, Fails, Refused}
 
 -- ---- bits of a number
 

@@ -7,10 +7,7 @@ use Rattle.vcpu_readings.specs.declared.GuestPageWalkInfo.{GuestPageWalkInfo}
 use Rattle.guest_paging.specs.Access as Access
 use Rattle.guest_paging.specs.Rule as Rule
 use Rattle.guest_paging.specs.Entry as Entry
-use Rattle.guest_paging.specs.declared.Walked.{Walked}
-use Rattle.guest_paging.specs.declared.Walked.TheVariants.{Address, Fails, Refused}
-use Rattle.guest_paging.specs.declared.Next.{Next}
-use Rattle.guest_paging.specs.declared.Next.TheVariants.{Ends, Below}
+use Rattle.guest_paging.specs.Walked.{Walked, Address, Fails, Refused, Next, Ends, Below}
 
 -- a reading for a kind of access: its write and fetch, which are no, give way to the kind
 abbrev pub for_access : GuestPageWalkInfo → ℕ → GuestPageWalkInfo

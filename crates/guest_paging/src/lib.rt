@@ -1,43 +1,69 @@
 // The walk of the guest's page tables, from a guest-virtual to a guest-physical address (document 02, N6; SDM 3A, 4.3 to 4.6), with physical addresses of 52 bits.
 #![tactic(auto)]
 
-ghost use Rattle.std.specs.Prelude.{◌≡◌, ◌+◌, ◌≤◌, ◌<◌, ◌^◌, length};
+ghost use Rattle.std.specs.Prelude.{◌≡◌, ◌+◌, ◌≤◌, ◌<◌, ◌^◌, length, true, MatchResult};
+ghost use Rattle.definitions.specs.Refusals.{number};
+ghost use Rattle.guest_paging.specs.Access as Kinds;
+ghost use Rattle.guest_paging.specs.Answer.{access_number, rule_number, broken, walked_of, next_of};
 ghost use Rattle.guest_paging.specs.Walk.{for_access, entry_size, index_of, place_of, entry_at, is_page, is_pae_top, reserved_high, reserved_low, reserved_bits, broken_right, broken_rule, passes_user, broken_at_page, page_address, at_page, next_table, entry_gives, level_gives, walk_from, top_table, cut_address, page_walk_of};
 
+mod table;
+
 use definitions::Refusal;
-use record::words;
+use record::words::Stored;
+use table::Table;
 use vcpu_readings::GuestPageWalkInfo;
 
 // The kinds of access, by their numbers.
-#[derive(Drop)]
-pub struct Access {}
+#[derive(Clone, Copy, Debug, PartialEq, Eq, Hash)]
+pub enum Access {
+    Read = 0,
+    Write = 1,
+    Fetch = 2,
+}
 
-impl Access {
-    pub const READ: u8 = 0;
+// The kind with a number. Refusal 2: there is none.
+impl TryFrom<u8> for Access {
+    type Error = Refusal;
 
-    pub const WRITE: u8 = 1;
+    ghost try_from_gives = { λ kind answer. MatchResult answer (λ access. (access_number access ≡ kind) × (kind ≤ Kinds.FETCH)) (λ refusal. (number refusal ≡ 2) × (Kinds.FETCH < kind)) };
 
-    pub const FETCH: u8 = 2;
+    fn try_from(kind: u8) -> Result<Self, Refusal> {
+        match kind {
+            0 => Ok(Access::Read),
+            1 => Ok(Access::Write),
+            2 => Ok(Access::Fetch),
+            _ => Err(Refusal::Bytes),
+        }
+    }
+}
+
+impl From<Access> for u8 {
+    ghost from_gives = { λ access kind. kind ≡ access_number access };
+
+    fn from(access: Access) -> u8 {
+        access as u8
+    }
 }
 
 // The rules that an entry is held to, by their numbers, in the order in which they are judged.
-#[derive(Drop)]
-pub struct Rule {}
+#[derive(Clone, Copy, Debug, PartialEq, Eq, Hash)]
+pub enum Rule {
+    NotPresent = 1,
+    Reserved = 2,
+    User = 3,
+    Write = 4,
+    Execute = 5,
+    Smep = 6,
+    Smap = 7,
+}
 
-impl Rule {
-    pub const NOT_PRESENT: u8 = 1;
+impl From<Rule> for u64 {
+    ghost from_gives = { λ rule n. n ≡ rule_number rule };
 
-    pub const RESERVED: u8 = 2;
-
-    pub const USER: u8 = 3;
-
-    pub const WRITE: u8 = 4;
-
-    pub const EXECUTE: u8 = 5;
-
-    pub const SMEP: u8 = 6;
-
-    pub const SMAP: u8 = 7;
+    fn from(rule: Rule) -> u64 {
+        rule as u64
+    }
 }
 
 // The bits of an entry that have a name, by their places.
@@ -56,352 +82,325 @@ impl Entry {
     const XD: u64 = 63;
 }
 
-// The guest-physical address; or the level and the first rule that its entry breaks; or refusal 26, an entry lies past the end of memory.
-#[derive(Clone, Copy)]
+// The guest-physical address; or the level and the first rule that its entry breaks.
+#[derive(Clone, Copy, Debug, PartialEq, Eq, Hash)]
 pub enum Walked {
     Address(u64),
-    Fails { level: u8, rule: u8 },
-    Refused(u32),
+    Fails { level: u8, rule: Rule },
 }
 
-// After an entry: the walk's end, or the table below and whether every entry so far lets the user in.
+// After an entry: the walk's end, or the table below.
 #[derive(Clone, Copy)]
 enum Next {
     Ends(Walked),
-    Below { table: u64, user: bool },
+    Below(Table),
 }
 
-// A reading for this kind of access.
+// A reading for this kind of access. The kind is a number, and one of no kind is taken as a read: an `Access` would ask more of callers.
 pub fn for_access(i: GuestPageWalkInfo, kind: u8) -> GuestPageWalkInfo
     ensures { result ≡ for_access i kind }
 {
     GuestPageWalkInfo {
-        top_entry: i.top_entry,
-        level: i.level,
-        width: i.width,
-        is_user_mode_access: i.is_user_mode_access,
-        is_write_access: kind == Access::WRITE,
-        is_inst_fetch: kind == Access::FETCH,
-        pse: i.pse,
-        wp: i.wp,
-        nxe: i.nxe,
-        is_smap_on: i.is_smap_on,
-        is_smep_on: i.is_smep_on,
+        is_write_access: kind == u8::from(Access::Write),
+        is_inst_fetch: kind == u8::from(Access::Fetch),
+        ..i
     }
 }
 
-// ---- where an entry lies
+// ---- a level of the tables
 
-// The bytes of an entry.
-#[tactic(auto, unfolding(crate::specs::Walk::entry_size))]
-fn entry_size(levels: u8) -> u64
-    ensures { result ≡ entry_size levels }
-{
-    if levels == 2 {
-        return 4;
-    }
-    8
+// Of how many levels, and which, the last of them 1.
+#[derive(Clone, Copy)]
+struct Level {
+    levels: u8,
+    level: u8,
 }
 
-// The index of an address into the table of a level.
-#[tactic(auto, unfolding(crate::specs::Walk::index_of))]
-fn index_of(levels: u8, level: u8, address: u64) -> u64
-    ensures value { result ≡ index_of levels level address }
-    ensures upper_bound { result < 1024 }
-{
-    if levels == 2 {
-        if level == 2 {
-            return (address >> 22) % 1024;
+impl Level {
+    // The bytes of an entry.
+    #[tactic(auto, unfolding(crate::specs::Walk::entry_size))]
+    fn entry_size(self) -> u64
+        ensures value { result ≡ entry_size self.levels }
+        ensures upper_bound { result ≤ 8 }
+    {
+        match self.levels {
+            2 => 4,
+            _ => 8,
         }
-        return (address >> 12) % 1024;
     }
-    if level == 4 {
-        return (address >> 39) % 512;
-    }
-    if level == 3 {
-        return (address >> 30) % 512;
-    }
-    if level == 2 {
-        return (address >> 21) % 512;
-    }
-    (address >> 12) % 512
-}
 
-// Where the entry of a level lies.
-#[tactic(auto, unfolding(crate::specs::Walk::place_of))]
-fn place_of(levels: u8, level: u8, address: u64, table: u64) -> u64
-    requires { table < 2 ^ 52 }
-    ensures value { result ≡ place_of levels level address table }
-    ensures upper_bound { result < 2 ^ 53 }
-{
-    let index = index_of(levels, level, address);
-    if levels == 2 {
-        return table + index * 4;
-    }
-    table + index * 8
-}
-
-#[tactic(auto, unfolding(crate::specs::Walk::entry_at, crate::specs::Walk::entry_size))]
-fn entry_at(memory: &[u8], at: usize, levels: u8) -> u64
-    requires { at + entry_size levels ≤ length memory.now }
-    ensures { result ≡ entry_at memory.now at levels }
-{
-    if levels == 2 {
-        return words::get4(memory, at) as u64;
-    }
-    words::get8(memory, at)
-}
-
-// ---- what an entry says
-
-// The entry maps a page: it is of the last level, or PS says so where it is judged.
-#[tactic(auto, unfolding(crate::specs::Walk::is_page))]
-fn is_page(levels: u8, level: u8, pse: bool, e: u64) -> bool
-    ensures { result ≡ is_page levels level pse e }
-{
-    (level == 1)
-        | (((level == 2) | ((level == 3) & (levels == 4))) & pse & ((e >> Entry::PS) % 2 == 1))
-}
-
-// An entry of PAE's top table has no rights.
-#[tactic(auto, unfolding(crate::specs::Walk::is_pae_top))]
-fn is_pae_top(levels: u8, level: u8) -> bool
-    ensures { result ≡ is_pae_top levels level }
-{
-    (levels == 3) & (level == 3)
-}
-
-// Reserved above the address: bit 63 without NXE, and with 3 levels bits 52 to 62.
-#[tactic(auto, unfolding(crate::specs::Walk::reserved_high))]
-fn reserved_high(levels: u8, nxe: bool) -> u64
-    ensures { result ≡ reserved_high levels nxe }
-{
-    if levels == 3 {
-        if nxe {
-            return 0x7FF0_0000_0000_0000;
+    // The index of an address into the table.
+    #[tactic(auto, unfolding(crate::specs::Walk::index_of))]
+    fn index_of(self, address: u64) -> u64
+        ensures value { result ≡ index_of self.levels self.level address }
+        ensures upper_bound { result < 1024 }
+    {
+        match (self.levels, self.level) {
+            (2, 2) => (address >> 22) % 1024,
+            (2, _) => (address >> 12) % 1024,
+            (_, 4) => (address >> 39) % 512,
+            (_, 3) => (address >> 30) % 512,
+            (_, 2) => (address >> 21) % 512,
+            _ => (address >> 12) % 512,
         }
-        return 0xFFF0_0000_0000_0000;
     }
-    if nxe {
-        return 0;
-    }
-    0x8000_0000_0000_0000
-}
 
-// Reserved below the address of a large page, and PS in the top table of 4 levels.
-#[tactic(auto, unfolding(crate::specs::Walk::reserved_low))]
-fn reserved_low(level: u8, page: bool) -> u64
-    ensures { result ≡ reserved_low level page }
-{
-    if level == 4 {
-        return 0x80;
+    // Where the entry of a table lies.
+    #[tactic(auto, unfolding(crate::specs::Walk::place_of, crate::specs::Walk::entry_size))]
+    fn place_of(self, address: u64, table: Table) -> u64
+        ensures value { result ≡ place_of self.levels self.level address table.address }
+        ensures upper_bound { result < 2 ^ 53 }
+    {
+        table.address + self.index_of(address) * self.entry_size()
     }
-    if !page {
-        return 0;
-    }
-    if level == 3 {
-        return 0x3FFF_E000;
-    }
-    if level == 2 {
-        return 0x1F_E000;
-    }
-    0
-}
 
-// The bits that must be 0: of a 4-MByte page bit 21; of an entry of PAE's top table bits 1, 2, 5 to 8 and 52 to 63.
-#[tactic(auto, unfolding(crate::specs::Walk::reserved_bits))]
-fn reserved_bits(levels: u8, level: u8, page: bool, nxe: bool) -> u64
-    ensures { result ≡ reserved_bits levels level page nxe }
-{
-    if levels == 2 {
-        if (level == 2) & page {
-            return 0x20_0000;
+    #[tactic(auto, unfolding(crate::specs::Walk::entry_at, crate::specs::Walk::entry_size))]
+    fn entry_at(self, memory: &[u8], at: usize) -> u64
+        requires { at + entry_size self.levels ≤ length memory.now }
+        ensures { result ≡ entry_at memory.now at self.levels }
+    {
+        match self.levels {
+            2 => u64::from(u32::get(memory, at)),
+            _ => u64::get(memory, at),
         }
-        return 0;
     }
-    if is_pae_top(levels, level) {
-        return 0xFFF0_0000_0000_01E6;
+
+    // The entry maps a page: it is of the last level, or PS says so where it is judged.
+    #[tactic(auto, unfolding(crate::specs::Walk::is_page))]
+    fn is_page(self, pse: bool, e: u64) -> bool
+        ensures { result ≡ is_page self.levels self.level pse e }
+    {
+        match (self.levels, self.level) {
+            (_, 1) => true,
+            (_, 2) | (4, 3) => pse && (e >> Entry::PS) % 2 == 1,
+            _ => false,
+        }
     }
-    reserved_high(levels, nxe) | reserved_low(level, page)
+
+    // An entry of PAE's top table has no rights.
+    #[tactic(auto, unfolding(crate::specs::Walk::is_pae_top))]
+    fn is_pae_top(self) -> bool
+        ensures { result ≡ is_pae_top self.levels self.level }
+    {
+        self.levels == 3 && self.level == 3
+    }
+
+    // Reserved above the address: bit 63 without NXE, and with 3 levels bits 52 to 62.
+    #[tactic(auto, unfolding(crate::specs::Walk::reserved_high))]
+    fn reserved_high(self, nxe: bool) -> u64
+        ensures { result ≡ reserved_high self.levels nxe }
+    {
+        match (self.levels, nxe) {
+            (3, true) => 0x7FF0_0000_0000_0000,
+            (3, false) => 0xFFF0_0000_0000_0000,
+            (_, true) => 0,
+            (_, false) => 0x8000_0000_0000_0000,
+        }
+    }
+
+    // Reserved below the address of a large page, and PS in the top table of 4 levels.
+    #[tactic(auto, unfolding(crate::specs::Walk::reserved_low))]
+    fn reserved_low(self, page: bool) -> u64
+        ensures { result ≡ reserved_low self.level page }
+    {
+        match (self.level, page) {
+            (4, _) => 0x80,
+            (3, true) => 0x3FFF_E000,
+            (2, true) => 0x1F_E000,
+            _ => 0,
+        }
+    }
+
+    // The bits that must be 0: of a 4-MByte page bit 21; of an entry of PAE's top table bits 1, 2, 5 to 8 and 52 to 63.
+    #[tactic(auto, unfolding(crate::specs::Walk::reserved_bits))]
+    fn reserved_bits(self, page: bool, nxe: bool) -> u64
+        ensures { result ≡ reserved_bits self.levels self.level page nxe }
+    {
+        match (self.levels, self.level) {
+            (2, 2) if page => 0x20_0000,
+            (2, _) => 0,
+            _ if self.is_pae_top() => 0xFFF0_0000_0000_01E6,
+            _ => self.reserved_high(nxe) | self.reserved_low(page),
+        }
+    }
+
+    // The entry lets the user in, as far as it says.
+    #[tactic(auto, unfolding(crate::specs::Walk::passes_user))]
+    fn passes_user(self, e: u64) -> bool
+        ensures { result ≡ passes_user self.levels self.level e }
+    {
+        self.is_pae_top() || (e >> Entry::US) % 2 == 1
+    }
+
+    // The address in the page that an entry maps.
+    #[tactic(auto, unfolding(crate::specs::Walk::page_address))]
+    fn page_address(self, e: u64, address: u64) -> u64
+        ensures { result ≡ page_address self.levels self.level e address }
+    {
+        match (self.levels, self.level) {
+            (_, 1) => (e >> 12) % 0x100_0000_0000 * 0x1000 + address % 0x1000,
+            (2, 2) => {
+                (e >> 13) % 256 * 0x1_0000_0000 + (e >> 22) % 1024 * 0x40_0000 + address % 0x40_0000
+            }
+            (_, 2) => (e >> 21) % 0x8000_0000 * 0x20_0000 + address % 0x20_0000,
+            _ => (e >> 30) % 0x40_0000 * 0x4000_0000 + address % 0x4000_0000,
+        }
+    }
 }
 
-// The first of the rules on rights that an entry breaks, or 0.
+// ---- the rules
+
+// The first of the rules on rights that an entry breaks.
 #[tactic(auto, unfolding(crate::specs::Walk::broken_right))]
-fn broken_right(i: GuestPageWalkInfo, e: u64) -> u8
-    ensures { result ≡ broken_right i e }
+fn broken_right(i: GuestPageWalkInfo, e: u64) -> Option<Rule>
+    ensures { broken result ≡ broken_right i e }
 {
-    if i.is_user_mode_access & ((e >> Entry::US) % 2 == 0) {
-        return Rule::USER;
+    if i.is_user_mode_access && (e >> Entry::US) % 2 == 0 {
+        Some(Rule::User)
+    } else if i.is_write_access && (e >> Entry::RW) % 2 == 0 && (i.is_user_mode_access || i.wp) {
+        Some(Rule::Write)
+    } else if i.is_inst_fetch && i.nxe && (e >> Entry::XD) % 2 == 1 {
+        Some(Rule::Execute)
+    } else {
+        None
     }
-    if i.is_write_access & ((e >> Entry::RW) % 2 == 0) & (i.is_user_mode_access | i.wp) {
-        return Rule::WRITE;
-    }
-    if i.is_inst_fetch & i.nxe & ((e >> Entry::XD) % 2 == 1) {
-        return Rule::EXECUTE;
-    }
-    0
 }
 
-// The first rule that an entry breaks by itself, or 0.
+// The first rule that an entry breaks by itself.
 #[tactic(auto, unfolding(crate::specs::Walk::broken_rule))]
-fn broken_rule(i: GuestPageWalkInfo, level: u8, page: bool, e: u64) -> u8
-    ensures { result ≡ broken_rule i level page e }
+fn broken_rule(i: GuestPageWalkInfo, level: u8, page: bool, e: u64) -> Option<Rule>
+    ensures { broken result ≡ broken_rule i level page e }
 {
+    let at = Level {
+        levels: i.level,
+        level,
+    };
     if (e >> Entry::P) % 2 == 0 {
-        return Rule::NOT_PRESENT;
+        Some(Rule::NotPresent)
+    } else if e & at.reserved_bits(page, i.nxe) != 0 {
+        Some(Rule::Reserved)
+    } else if at.is_pae_top() {
+        None
+    } else {
+        broken_right(i, e)
     }
-    let reserved = reserved_bits(i.level, level, page, i.nxe);
-    if e & reserved != 0 {
-        return Rule::RESERVED;
-    }
-    if is_pae_top(i.level, level) {
-        return 0;
-    }
-    broken_right(i, e)
 }
 
-// The entry lets the user in, as far as it says.
-#[tactic(auto, unfolding(crate::specs::Walk::passes_user))]
-fn passes_user(levels: u8, level: u8, e: u64) -> bool
-    ensures { result ≡ passes_user levels level e }
-{
-    is_pae_top(levels, level) | ((e >> Entry::US) % 2 == 1)
-}
-
-// ---- at the page
-
-// The rule that an access to a page breaks by the rights of all levels, or 0.
+// The rule that an access to a page breaks by the rights of all levels.
 #[tactic(auto, unfolding(crate::specs::Walk::broken_at_page))]
-fn broken_at_page(i: GuestPageWalkInfo, user: bool) -> u8
-    ensures { result ≡ broken_at_page i user }
+fn broken_at_page(i: GuestPageWalkInfo, user: bool) -> Option<Rule>
+    ensures { broken result ≡ broken_at_page i user }
 {
-    if i.is_user_mode_access | !user {
-        return 0;
+    if i.is_user_mode_access || !user {
+        None
+    } else if i.is_inst_fetch {
+        i.is_smep_on.then_some(Rule::Smep)
+    } else {
+        i.is_smap_on.then_some(Rule::Smap)
     }
-    if i.is_inst_fetch {
-        if i.is_smep_on {
-            return Rule::SMEP;
-        }
-        return 0;
-    }
-    if i.is_smap_on {
-        return Rule::SMAP;
-    }
-    0
-}
-
-// The address in the page that an entry maps.
-#[tactic(auto, unfolding(crate::specs::Walk::page_address))]
-fn page_address(levels: u8, level: u8, e: u64, address: u64) -> u64
-    ensures { result ≡ page_address levels level e address }
-{
-    if level == 1 {
-        return (e >> 12) % 0x100_0000_0000 * 0x1000 + address % 0x1000;
-    }
-    if level == 2 {
-        if levels == 2 {
-            return (e >> 13) % 256 * 0x1_0000_0000
-                + (e >> 22) % 1024 * 0x40_0000
-                + address % 0x40_0000;
-        }
-        return (e >> 21) % 0x8000_0000 * 0x20_0000 + address % 0x20_0000;
-    }
-    (e >> 30) % 0x40_0000 * 0x4000_0000 + address % 0x4000_0000
-}
-
-#[tactic(auto, unfolding(crate::specs::Walk::at_page))]
-fn at_page(i: GuestPageWalkInfo, address: u64, level: u8, e: u64, user: bool) -> Walked
-    ensures { result ≡ at_page i address level e user }
-{
-    let rule = broken_at_page(i, user);
-    if rule != 0 {
-        return Walked::Fails { level, rule };
-    }
-    Walked::Address(page_address(i.level, level, e, address))
 }
 
 // ---- the walk
 
-// The address of the table below: bits 12 to 51, of which a 4-byte entry has those to 31.
-fn next_table(e: u64) -> u64
-    ensures value { result ≡ next_table e }
-    ensures upper_bound { result < 2 ^ 52 }
-{
-    (e >> 12) % 0x100_0000_0000 * 0x1000
-}
-
-fn entry_gives(i: GuestPageWalkInfo, address: u64, level: u8, user: bool, e: u64) -> Next
-    ensures { result ≡ entry_gives i address level user e }
-{
-    let page = is_page(i.level, level, i.pse, e);
-    let rule = broken_rule(i, level, page, e);
-    if rule != 0 {
-        return Next::Ends(Walked::Fails { level, rule });
-    }
-    let all = user & passes_user(i.level, level, e);
-    if page {
-        return Next::Ends(at_page(i, address, level, e, all));
-    }
-    Next::Below {
-        table: next_table(e),
-        user: all,
-    }
-}
-
-// The entry of a level lies past the end of memory (26), or gives what it says.
-fn level_gives(
-    memory: &[u8],
-    i: GuestPageWalkInfo,
+// What a walk goes through, by which reading, and to which address.
+#[derive(Clone, Copy)]
+struct Walk<'a> {
+    memory: &'a [u8],
+    reading: GuestPageWalkInfo,
     address: u64,
-    level: u8,
-    table: u64,
-    user: bool,
-) -> Next
-    requires { table < 2 ^ 52 }
-    ensures { result ≡ level_gives memory.now i address level table user }
-{
-    let at = place_of(i.level, level, address, table);
-    if (memory.len() as u64) < at + entry_size(i.level) {
-        return Next::Ends(Walked::Refused(Refusal::MEMORY));
-    }
-    let e = entry_at(memory, at as usize, i.level);
-    entry_gives(i, address, level, user, e)
 }
 
-// The walk from the table of a level down: each level takes the table below it until a page is met.
-fn walk_level(
-    memory: &[u8],
-    i: GuestPageWalkInfo,
-    address: u64,
-    level: u8,
-    table: u64,
-    user: bool,
-) -> Walked
-    requires { (1 ≤ level) × (table < 2 ^ 52) }
-    ensures { result ≡ walk_from memory.now i address level table user }
+impl Walk<'_> {
+    fn level(&self, level: u8) -> Level
+        ensures { result ≡ record { levels = self.now.reading.level; level = level } }
+    {
+        Level {
+            levels: self.reading.level,
+            level,
+        }
+    }
+
+    // At an entry that maps a page, where every entry lets the user in, or not.
+    #[tactic(auto, unfolding(crate::specs::Walk::at_page))]
+    fn at_page(&self, level: u8, e: u64, user: bool) -> Walked
+        ensures { walked_of (Ok result) ≡ at_page self.now.reading self.now.address level e user }
+    {
+        match broken_at_page(self.reading, user) {
+            Some(rule) => Walked::Fails { level, rule },
+            None => Walked::Address(self.level(level).page_address(e, self.address)),
+        }
+    }
+
+    // An entry of a level, where every entry above lets the user in, or not.
+    #[tactic(auto, unfolding(crate::specs::Walk::entry_gives))]
+    fn entry_gives(&self, level: u8, user: bool, e: u64) -> Next
+        ensures { next_of (Ok result) ≡ entry_gives self.now.reading self.now.address level user e }
+    {
+        let at = self.level(level);
+        let page = at.is_page(self.reading.pse, e);
+        if let Some(rule) = broken_rule(self.reading, level, page, e) {
+            return Next::Ends(Walked::Fails { level, rule });
+        }
+        let all = user && at.passes_user(e);
+        if page {
+            return Next::Ends(self.at_page(level, e, all));
+        }
+        Next::Below(next_table(e, all))
+    }
+
+    // What the entry of a level gives. Refusal 26: it lies past the end of memory.
+    #[tactic(auto, unfolding(crate::specs::Walk::level_gives))]
+    fn level_gives(&self, level: u8, table: Table) -> Result<Next, Refusal>
+        ensures { next_of result ≡ level_gives self.now.memory.now self.now.reading self.now.address level table.address table.user }
+    {
+        let tables = self.level(level);
+        let at = tables.place_of(self.address, table);
+        if (self.memory.len() as u64) < at + tables.entry_size() {
+            return Err(Refusal::Memory);
+        }
+        let e = tables.entry_at(self.memory, at as usize);
+        Ok(self.entry_gives(level, table.user, e))
+    }
+
+    // The walk from the table of a level down: each level takes the table below it until a page is met.
+    #[tactic(auto, using(crate::proofs::WalkLaws::walk_step))]
+    fn walk_level(&self, level: u8, table: Table) -> Result<Walked, Refusal>
+        requires { 1 ≤ level }
+        ensures { walked_of result ≡ walk_from self.now.memory.now self.now.reading self.now.address level table.address table.user }
+    {
+        match self.level_gives(level, table)? {
+            Next::Ends(walked) => Ok(walked),
+            Next::Below(below) => self.walk_level(level - 1, below),
+        }
+    }
+}
+
+// The table below an entry: bits 12 to 51, of which a 4-byte entry has those to 31.
+fn next_table(e: u64, user: bool) -> Table
+    ensures value { result.address ≡ next_table e }
+    ensures opened { result.user ≡ user }
 {
-    match level_gives(memory, i, address, level, table, user) {
-        Next::Ends(w) => w,
-        Next::Below {
-            table: below,
-            user: all,
-        } => { walk_level(memory, i, address, level - 1, below, all) }
+    Table {
+        address: (e >> 12) % 0x100_0000_0000 * 0x1000,
+        user,
     }
 }
 
 // The address of the top table: of CR3 bits 12 to 51 with 4 levels, 5 to 31 with 3, 12 to 31 with 2.
 #[tactic(auto, unfolding(crate::specs::Walk::top_table))]
-fn top_table(levels: u8, cr3: u64) -> u64
-    ensures value { result ≡ top_table levels cr3 }
-    ensures upper_bound { result < 2 ^ 52 }
+fn top_table(levels: u8, cr3: u64) -> Table
+    ensures value { result.address ≡ top_table levels cr3 }
+    ensures opened { result.user ≡ true }
 {
-    if levels == 4 {
-        return (cr3 >> 12) % 0x100_0000_0000 * 0x1000;
+    let address = match levels {
+        4 => (cr3 >> 12) % 0x100_0000_0000 * 0x1000,
+        3 => (cr3 >> 5) % 0x800_0000 * 0x20,
+        _ => (cr3 >> 12) % 0x10_0000 * 0x1000,
+    };
+    Table {
+        address,
+        user: true,
     }
-    if levels == 3 {
-        return (cr3 >> 5) % 0x800_0000 * 0x20;
-    }
-    (cr3 >> 12) % 0x10_0000 * 0x1000
 }
 
 // 48 bits of an address with 4 levels, else 32.
@@ -409,27 +408,24 @@ fn top_table(levels: u8, cr3: u64) -> u64
 fn cut_address(levels: u8, address: u64) -> u64
     ensures { result ≡ cut_address levels address }
 {
-    if levels == 4 {
-        return address % 0x1_0000_0000_0000;
+    match levels {
+        4 => address % 0x1_0000_0000_0000,
+        _ => address % 0x1_0000_0000,
     }
-    address % 0x1_0000_0000
 }
 
-// The walk of an access that the reading describes. Without paging the answer is the address itself.
+// The walk of an access that the reading describes. Without paging the answer is the address itself. Refusal 26: an entry lies past the end of memory.
 #[tactic(auto, unfolding(crate::specs::Walk::page_walk_of))]
-pub fn page_walk(memory: &[u8], i: GuestPageWalkInfo, address: u64) -> Walked
-    ensures { result ≡ page_walk_of memory.now i address }
+pub fn page_walk(memory: &[u8], i: GuestPageWalkInfo, address: u64) -> Result<Walked, Refusal>
+    ensures { walked_of result ≡ page_walk_of memory.now i address }
 {
     if i.level == 0 {
-        return Walked::Address(address);
+        return Ok(Walked::Address(address));
     }
-    let table = top_table(i.level, i.top_entry);
-    walk_level(
+    let walk = Walk {
         memory,
-        i,
-        cut_address(i.level, address),
-        i.level,
-        table,
-        true,
-    )
+        reading: i,
+        address: cut_address(i.level, address),
+    };
+    walk.walk_level(i.level, top_table(i.level, i.top_entry))
 }

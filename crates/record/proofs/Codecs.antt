@@ -5,7 +5,7 @@ use mathlib.Core.List.{List, [], ◌∷◌, ◌++◌, append_assoc, flat_map}
 use Prim.Native.Nat.{ℕ, zero, suc, ◌+◌, ◌*◌, ◌^◌, ◌≤◌, ◌<◌}
 use native.Mathlib.Nat.{zero-mul, suc-mul, one-le-pow}
 use native.Mathlib.Omega.{arith}
-use lib.ListN.{length, take, drop, length-append, length-drop, length-take}
+use lib.ListN.{length, take, drop, length-drop, length-take}
 use lib.Seq.{take-add, drop_at}
 use lib.Dec.{lit<}
 use Rattle.bits.specs.Words.{flag}
@@ -14,9 +14,9 @@ use Rattle.bits.proofs.BitLaws.{is_flag}
 use Rattle.bits.proofs.WithBit.{flag_lt, flag_read}
 use Rattle.bits.proofs.LittleEndianLaws.{length_bytes_of, number_of_below, number_written, written_number, two_read, two_written, below_drop, below_take}
 use Rattle.regs.specs.Registers.{list_of, of_list}
-use Rattle.vmcs.specs.declared.controls.Pair.{Pair}
 use Rattle.record.specs.Runs.{read_all, All, Run, Takes, Numbers, numbers, number_bytes, flag_of, flag_bytes}
 use Rattle.record.specs.Codec.{pair_of, pair_bytes, fixed_of, fixed_bytes}
+use Rattle.record.specs.Sizes.{length_pair_bytes, length_fixed_bytes}
 use Rattle.record.specs.Fitting.{PairFits, FixedFits}
 use Rattle.record.proofs.Loops.{length_flat_map, all_map, Any}
 
@@ -139,13 +139,6 @@ two_fit : (k : ℕ) (bs : List ℕ) → Below 256 bs → k + k ≤ length bs →
 two_fit k bs below long =
     ((number k).fits bs below (omega arith), (number k).fits (drop k bs) (below_drop k bs below) (rw length-drop (omega arith)))
 
-length_two : (k u v : ℕ) → length (bytes_of k u ++ bytes_of k v) ≡ k + k
-length_two k u v = simp (length-append, length_bytes_of)
-
-pub length_pair_bytes : (p : Pair) → length (pair_bytes p) ≡ 8
-unfolding pair_bytes
-length_pair_bytes p = length_two 4 p.allowed0 p.allowed1
-
 pub pair : Codec 8 pair_of pair_bytes PairFits Any
 unfolding pair_of pair_bytes
 pair =
@@ -162,7 +155,7 @@ pub fixed : Codec 16 fixed_of fixed_bytes FixedFits Any
 unfolding fixed_of fixed_bytes
 fixed =
     record {
-      sized = λ f h. length_two 8 f.fixed0 f.fixed1;
+      sized = λ f h. length_fixed_bytes f;
       back = λ f rest h.
           let both = two_read 8 f.fixed0 f.fixed1 rest h.0 h.1 in
           λ i. record { fixed0 = both.0 i; fixed1 = both.1 i };

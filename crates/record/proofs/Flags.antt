@@ -4,20 +4,13 @@ use mathlib.Core.Bool.{Bool, true, false, ◌&&◌, true≢false}
 use mathlib.Core.List.{List, ◌++◌}
 use Prim.Native.Nat.{ℕ, ◌≤◌}
 use native.Mathlib.Omega.{arith}
-use lib.ListN.{length}
-use Rattle.bits.specs.Words.{flag}
 use Rattle.bits.specs.LittleEndian.{little_endian, number_of, bytes_of}
 use Rattle.bits.proofs.WithBit.{flag_lt}
-use Rattle.bits.proofs.LittleEndianLaws.{length_bytes_of}
 use Rattle.record.specs.Runs.{flag_bytes}
 
 pub both : (x y : Bool) → (x && y) ≡ true → (x ≡ true) × (y ≡ true)
 both true y e = (refl, e)
 both false y e = absurd (true≢false (sym e))
-
-pub length_flag_bytes : (on : Bool) → length (flag_bytes on) ≡ 1
-unfolding flag_bytes
-length_flag_bytes on = length_bytes_of 1 (flag on)
 
 -- the byte of a yes/no value
 pub flag_written : (on : Bool) (p rest : List ℕ) → p ≡ flag_bytes on ++ rest → little_endian 1 p ≤ 1

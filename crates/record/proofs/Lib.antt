@@ -2,7 +2,6 @@ pub mod Stores
 pub mod Parts
 pub mod PartNames
 pub mod Loops
-pub mod Owned
 pub mod Flags
 pub mod Codecs
 pub mod Capabilities

@@ -35,27 +35,25 @@ module _ {A : Type 0} where
       let place : at + suc i * size ≡ at + size + i * size = omega (arith, suc-mul i size) in
       rw (place, drop-drop size at bs) (read_all_at size read n (at + size) bs i d (omega arith))
 
-  -- `out` has its first i values, read from `from` on
-  pub record Filled (size : ℕ) (read : List ℕ → A) (bs : List ℕ) (at n : ℕ) (out : List A) (i from : ℕ) : Type 0 where
+  -- `out` has its first i values
+  pub record Filled (size : ℕ) (read : List ℕ → A) (bs : List ℕ) (at n : ℕ) (out : List A) (i : ℕ) : Type 0 where
     pub within : i ≤ n
-    pub place : from ≡ at + i * size
     pub sized : length out ≡ n
     pub front : take i out ≡ read_all size read i (drop at bs)
 
   module _ {size : ℕ} {read : List ℕ → A} {bs : List ℕ} {at n : ℕ} {out : List A} where
-    pub filled_none : length out ≡ n → Filled size read bs at n out 0 at
+    pub filled_none : length out ≡ n → Filled size read bs at n out 0
     unfolding read_all
-    filled_none e = record { within = omega arith; place = rw zero-mul (sym (add-zero at)); sized = e; front = refl }
+    filled_none e = record { within = omega arith; sized = e; front = refl }
 
-    module _ {i from : ℕ} (f : Filled size read bs at n out i from) where
-      pub filled_more : {v : A} → i < n → v ≡ read (drop from bs) → Filled size read bs at n (set out i v) (i + 1) (from + size)
+    module _ {i : ℕ} (f : Filled size read bs at n out i) where
+      pub filled_more : {v : A} → i < n → v ≡ read (drop (at + i * size) bs) → Filled size read bs at n (set out i v) (i + 1)
       filled_more {v} h e =
           let long : i < length out = rw f.sized h in
           record {
             within = omega arith;
-            place = rw f.place (omega arith);
             sized = length-set out i v ∙ f.sized;
-            front = rw (add-one, take-suc-set out i v long, read_all_more, drop-drop, f.front, e, f.place);
+            front = rw (add-one, take-suc-set out i v long, read_all_more, drop-drop, f.front, e);
           }
 
       pub filled_all : n ≤ i → out ≡ read_all size read n (drop at bs)
@@ -95,38 +93,36 @@ module _ {A : Type 0} where
   length_flat_map size write (v ∷ vs) h =
       omega (arith, length-append (write v) (flat_map write vs), h.0, length_flat_map size write vs h.1, suc-mul (length vs) size)
 
-  -- the first i values of `vs` fit, and are stored up to `to`
-  pub record Stored (size : ℕ) (write : A → List ℕ) (Fits : A → Type 0) (l : List ℕ) (at : ℕ) (vs : List A) (b : List ℕ) (i to : ℕ) : Type 0 where
+  -- the first i values of `vs` fit, and are stored
+  pub record Written (size : ℕ) (write : A → List ℕ) (Fits : A → Type 0) (l : List ℕ) (at : ℕ) (vs : List A) (b : List ℕ) (i : ℕ) : Type 0 where
     pub within : i ≤ length vs
-    pub place : to ≡ at + i * size
     pub sized : length b ≡ length l
     pub front : b ≡ sets l at (flat_map write (take i vs))
     pub fit : All Fits (take i vs)
 
   module _ {size : ℕ} {write : A → List ℕ} {Fits : A → Type 0} {l : List ℕ} {at : ℕ} {vs : List A} where
-    pub stored_none : Stored size write Fits l at vs l 0 at
+    pub written_none : Written size write Fits l at vs l 0
     unfolding flat_map
-    stored_none = record { within = omega arith; place = rw zero-mul (sym (add-zero at)); sized = refl; front = refl; fit = tt }
+    written_none = record { within = omega arith; sized = refl; front = refl; fit = tt }
 
-    module _ {b : List ℕ} {i to : ℕ} (s : Stored size write Fits l at vs b i to) where
-      pub stored_more : (d : A) {b' : List ℕ} → ((v : A) → length (write v) ≡ size) → i < length vs
-          → b' ≡ sets b to (write (get_or vs i d)) → Fits (get_or vs i d) → Stored size write Fits l at vs b' (i + 1) (to + size)
-      stored_more d {b'} each h e fit =
+    module _ {b : List ℕ} {i : ℕ} (s : Written size write Fits l at vs b i) where
+      pub written_more : (d : A) {b' : List ℕ} → ((v : A) → length (write v) ≡ size) → i < length vs
+          → b' ≡ sets b (at + i * size) (write (get_or vs i d)) → Fits (get_or vs i d) → Written size write Fits l at vs b' (i + 1)
+      written_more d {b'} each h e fit =
           let count : length (take i vs) ≡ i = simp length-take (omega arith) in
-          let past : to ≡ at + length (flat_map write (take i vs)) = s.place ∙ sym (rw (length_flat_map size write (take i vs) (all_of each (take i vs)), count)) in
+          let past : at + i * size ≡ at + length (flat_map write (take i vs)) = sym (rw (length_flat_map size write (take i vs) (all_of each (take i vs)), count)) in
           record {
             within = omega arith;
-            place = rw s.place (omega arith);
-            sized = ap length e ∙ length-sets b to (write (get_or vs i d)) ∙ s.sized;
+            sized = ap length e ∙ length-sets b (at + i * size) (write (get_or vs i d)) ∙ s.sized;
             front = e ∙ rw (s.front, past, sets_append, add-one, flat_map_more write vs i d h);
             fit = rw add-one (all_more Fits vs i d h s.fit fit);
           }
 
-      pub stored_all : length vs ≤ i → b ≡ sets l at (flat_map write vs)
-      stored_all h = rw take_all at s.front
+      pub written_all : length vs ≤ i → b ≡ sets l at (flat_map write vs)
+      written_all h = rw take_all at s.front
 
-      pub stored_fits : length vs ≤ i → All Fits vs
-      stored_fits h = rw take_all at s.fit
+      pub written_fits : length vs ≤ i → All Fits vs
+      written_fits h = rw take_all at s.fit
 
   -- nothing is asked of the values
   abbrev pub Any : A → Type 0

@@ -15,10 +15,9 @@ use Rattle.vmcs.specs.Writes.{Sized}
 use Rattle.vcpu_session.specs.declared.Session.{Session}
 use Rattle.vcpu_session.specs.Session.{new_session, is_unlawful, Lawful}
 use Rattle.vcpu_session.proofs.LawfulLaws.{lawful_of, of_lawful}
-use Rattle.record.specs.declared.Decoded.{Decoded}
 use Rattle.record.specs.Record as Record
 use Rattle.record.specs.Runs.{read_all, Numbers, stored_at, flag_of}
-use Rattle.record.specs.Codec.{pair_of, fixed_of, session_of, parts_of, encode_of, accepted_of, decoded, decode_of}
+use Rattle.record.specs.Codec.{pair_of, fixed_of, session_of, parts_of, encode_of, accepted_of, Decoded, decoded, decode_of}
 use Rattle.record.specs.Fitting.{Fitting}
 use Rattle.record.specs.Acceptable.{Acceptable}
 use Rattle.record.specs.Faithful.{Faithful}

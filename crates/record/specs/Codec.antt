@@ -1,7 +1,9 @@
 -- The session that a record holds, the record of a session, and which bytes are refused (document 01, refusal 2). Assumes nothing.
-use Rattle.std.specs.Prelude.{Bool, cond, ◌&&◌, ℕ, length, drop, eqb, leb}
+use Rattle.std.specs.Prelude.{Bool, cond, ◌&&◌, ℕ, Result, Ok, Err, length, drop, eqb, leb}
 use mathlib.Core.List.{List, [], ◌∷◌, ◌++◌, flatten, flat_map}
 use Rattle.bits.specs.LittleEndian.{little_endian, bytes_of}
+use Rattle.definitions.specs.declared.refusal.Refusal.{Refusal}
+use Rattle.definitions.specs.Refusals.{number}
 use Rattle.regs.specs.Registers.{list_of, of_list}
 use Rattle.regs.specs.declared.GeneralRegisters.{GeneralRegisters}
 use Rattle.vmcs.specs.Field.{Field, put}
@@ -14,7 +16,6 @@ use Rattle.vcpu_session.specs.declared.Capabilities.{Capabilities}
 use Rattle.vcpu_session.specs.declared.Xcr0.{Xcr0}
 use Rattle.vcpu_session.specs.declared.Session.{Session}
 use Rattle.vcpu_session.specs.Session.{new_session, with_vmcs}
-use Rattle.record.specs.declared.Decoded.{Decoded}
 use Rattle.record.specs.Runs.{read_all, numbers, number_bytes, flag_of, flag_bytes}
 use Rattle.record.specs.Record as Record
 
@@ -107,8 +108,18 @@ accepted_of b =
     && leb (little_endian 4 (drop Record.HELD b)) (little_endian 4 (drop Record.ENTRIES b))
     && leb (little_endian 1 (drop Record.WAITING b)) 64
 
+-- 0 and the session of a record, or the number of a refusal and a new session
+pub record Decoded : Type 0 where
+  pub refusal : ℕ
+  pub session : Session
+
 abbrev pub decoded : ℕ → Session → Decoded
 decoded n s = record { refusal = n; session = s }
+
+-- what the code answers
+abbrev pub decoded_by : Result Session Refusal → Decoded
+decoded_by (Ok s) = decoded 0 s
+decoded_by (Err e) = decoded (number e) new_session
 
 -- 0 and the session, or 2 and a new session
 unfoldable pub decode_of : List ℕ → Decoded

@@ -2,6 +2,7 @@
 pub mod Record
 pub mod Runs
 pub mod Codec
+pub mod Sizes
 pub mod Fitting
 pub mod Acceptable
 pub mod Faithful

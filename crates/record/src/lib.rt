@@ -1,15 +1,16 @@
 // The byte record of a session, which the host kernel holds and hands to each call.
 #![tactic(auto)]
 
-ghost use Rattle.std.specs.Prelude.{◌≡◌, ◌+◌, ◌<◌, ◌≤◌, length, drop, get_or};
-ghost use mathlib.Core.List.{[], ◌∷◌, flat_map};
-ghost use Rattle.std.proofs.lemmas.List.Edits.{sets};
-ghost use Rattle.regs.specs.Registers.{list_of};
+ghost use Rattle.std.specs.Prelude.{◌≡◌, ◌<◌, length, get_or};
+ghost use mathlib.Core.List.{[], ◌∷◌};
+ghost use Rattle.definitions.specs.Refusals.{refusal_of};
+ghost use Rattle.regs.specs.Registers.{list_of, of_list};
 ghost use Rattle.vmcs.specs.Field.{Word16, Word32, Word64, Natural, value_of};
 ghost use Rattle.vmcs.specs.Fields.{field_at};
-ghost use Rattle.record.specs.Record.{LENGTH, PHASE, LAUNCHED, ENTRIES, HELD, REGS, W16, W32, W64, NATURAL, WAITING, VECTORS, CODED, CODES, PAIRS, CR0, CR4, XCR0, SUPPORTED};
-ghost use Rattle.record.specs.Runs.{stored_at, All, Numbers};
-ghost use Rattle.record.specs.Codec.{pair_of, pair_bytes, fixed_of, fixed_bytes, session_of, progress_parts, reg_parts, vmcs_parts, queue_parts, capability_parts, xcr0_parts, encode_of, accepted_of, decode_of, encoded, encoded_of};
+ghost use Rattle.record.specs.Record.{LENGTH, PHASE, LAUNCHED, ENTRIES, HELD, W16, W32, W64, NATURAL, WAITING, VECTORS, CODED, CODES, PAIRS, CR0, CR4, XCR0, SUPPORTED};
+ghost use Rattle.record.specs.Runs.{stored_at, numbers, number_bytes, Numbers};
+ghost use Rattle.record.specs.Codec.{pair_of, pair_bytes, fixed_of, fixed_bytes, session_of, progress_parts, vmcs_parts, queue_parts, capability_parts, xcr0_parts, encode_of, accepted_of, decoded_by, decode_of, encoded, encoded_of};
+ghost use Rattle.record.specs.Sizes.{length_pair_bytes, length_fixed_bytes, length_register_bytes};
 ghost use Rattle.record.specs.Fitting.{ProgressFits, VmcsFits, QueueFits, PairFits, FixedFits, CapabilitiesFit, Xcr0Fits, Fitting};
 
 pub mod words;
@@ -19,6 +20,7 @@ use regs::GeneralRegisters;
 use vcpu_session::{Capabilities, Fixed, Progress, Queue, Session, Xcr0};
 use vmcs::Vmcs;
 use vmcs::controls::Pair;
+use words::Stored;
 
 // How long a record is, and where each part starts. Nothing lies between the parts, and numbers stand least significant byte first.
 #[derive(Drop)]
@@ -81,11 +83,88 @@ impl Record {
     pub const SUPPORTED: usize = 1477;
 }
 
-// The session of a record, or a new one beside the number of the refusal.
-#[derive(Clone, Copy)]
-pub struct Decoded {
-    pub refusal: u32,
-    pub session: Session,
+// ---- A pair of a control word, and the fixed bits of a control register. proofs/Capabilities.antt says which are the session's.
+
+impl Stored for Pair {
+    ghost SIZE = { 8 };
+
+    ghost read = { pair_of };
+
+    ghost write = { pair_bytes };
+
+    ghost Fits = { PairFits };
+
+    const SIZE: usize = 8;
+
+    #[tactic(auto, unfolding(crate::specs::Codec::pair_of))]
+    fn get(b: &[u8], at: usize) -> Pair {
+        Pair {
+            allowed0: u32::get(b, at),
+            allowed1: u32::get(b, at + 4),
+        }
+    }
+
+    #[tactic(auto, unfolding(crate::specs::Codec::pair_bytes))]
+    fn put(b: &mut [u8], at: usize, v: Pair) {
+        u32::put(b, at, v.allowed0);
+        u32::put(b, at + 4, v.allowed1);
+    }
+
+    ghost size = { length_pair_bytes };
+}
+
+impl Stored for Fixed {
+    ghost SIZE = { 16 };
+
+    ghost read = { fixed_of };
+
+    ghost write = { fixed_bytes };
+
+    ghost Fits = { FixedFits };
+
+    const SIZE: usize = 16;
+
+    #[tactic(auto, unfolding(crate::specs::Codec::fixed_of))]
+    fn get(b: &[u8], at: usize) -> Fixed {
+        Fixed {
+            fixed0: u64::get(b, at),
+            fixed1: u64::get(b, at + 8),
+        }
+    }
+
+    #[tactic(auto, unfolding(crate::specs::Codec::fixed_bytes))]
+    fn put(b: &mut [u8], at: usize, v: Fixed) {
+        u64::put(b, at, v.fixed0);
+        u64::put(b, at + 8, v.fixed1);
+    }
+
+    ghost size = { length_fixed_bytes };
+}
+
+// ---- The registers, in the order of their encoding.
+
+impl Stored for GeneralRegisters {
+    ghost SIZE = { 128 };
+
+    ghost read = { λ bs. of_list (numbers 8 16 bs) };
+
+    ghost write = { λ g. number_bytes 8 (list_of g) };
+
+    ghost Fits = { λ g. Numbers 16 8 (list_of g) };
+
+    const SIZE: usize = 128;
+
+    fn get(b: &[u8], at: usize) -> GeneralRegisters {
+        let mut regs = [0u64; 16];
+        words::get_all(&mut regs, b, at);
+        GeneralRegisters::from(regs)
+    }
+
+    fn put(b: &mut [u8], at: usize, v: GeneralRegisters) {
+        words::put_all(b, at, &<[u64; 16]>::from(v));
+    }
+
+    ghost size = { length_register_bytes };
 }
 
 // ---- Which bytes are a record.
@@ -98,15 +177,16 @@ pub fn accepts(b: &[u8]) -> bool
     if b.len() != Record::LENGTH {
         return false;
     }
-    let phase = words::get1(b, Record::PHASE);
-    let launched = words::get1(b, Record::LAUNCHED);
-    let entries = words::get4(b, Record::ENTRIES);
-    let held = words::get4(b, Record::HELD);
-    let waiting = words::get1(b, Record::WAITING);
+    let phase = u8::get(b, Record::PHASE);
+    let launched = u8::get(b, Record::LAUNCHED);
+    let entries = u32::get(b, Record::ENTRIES);
+    let held = u32::get(b, Record::HELD);
+    let waiting = u8::get(b, Record::WAITING);
     (phase <= 4) & (launched <= 1) & (held <= entries) & (waiting <= 64)
 }
 
-// ---- Reading a record of the right length.
+// ---- Reading a record of the right length. The length is a clause and not the type `[u8; Record::LENGTH]`: of a `&mut [u8]` that the library's `TryFrom`
+// makes an array of, its contract does not say what the slice holds afterwards, so the functions that write could not be called.
 
 #[tactic(auto, unfolding(crate::specs::Codec::session_of))]
 pub fn progress_at(b: &[u8]) -> Progress
@@ -114,10 +194,10 @@ pub fn progress_at(b: &[u8]) -> Progress
     ensures { result ≡ (session_of b.now).progress }
 {
     Progress {
-        phase: words::get1(b, Record::PHASE),
-        launched: words::get_flag(b, Record::LAUNCHED),
-        entries: words::get4(b, Record::ENTRIES),
-        held: words::get4(b, Record::HELD),
+        phase: u8::get(b, Record::PHASE),
+        launched: bool::get(b, Record::LAUNCHED),
+        entries: u32::get(b, Record::ENTRIES),
+        held: u32::get(b, Record::HELD),
     }
 }
 
@@ -126,7 +206,7 @@ pub fn phase_at(b: &[u8]) -> u8
     requires { length b.now ≡ LENGTH }
     ensures { result ≡ (session_of b.now).progress.phase }
 {
-    words::get1(b, Record::PHASE)
+    u8::get(b, Record::PHASE)
 }
 
 #[tactic(auto, unfolding(crate::specs::Codec::session_of))]
@@ -134,7 +214,7 @@ pub fn waiting_at(b: &[u8]) -> u8
     requires { length b.now ≡ LENGTH }
     ensures { result ≡ (session_of b.now).queue.waiting }
 {
-    words::get1(b, Record::WAITING)
+    u8::get(b, Record::WAITING)
 }
 
 // Whether each event has an error code, bit i for place i.
@@ -143,17 +223,7 @@ pub fn coded_at(b: &[u8]) -> u64
     requires { length b.now ≡ LENGTH }
     ensures { result ≡ (session_of b.now).queue.coded }
 {
-    words::get8(b, Record::CODED)
-}
-
-#[tactic(auto, unfolding(crate::specs::Codec::session_of))]
-fn regs_at(b: &[u8]) -> GeneralRegisters
-    requires { length b.now ≡ LENGTH }
-    ensures { result ≡ (session_of b.now).regs }
-{
-    let mut regs = [0u64; 16];
-    words::get_all8(&mut regs, b, Record::REGS);
-    regs::of_array(regs)
+    u64::get(b, Record::CODED)
 }
 
 #[tactic(auto, unfolding(crate::specs::Codec::session_of))]
@@ -162,18 +232,18 @@ fn vmcs_at(b: &[u8]) -> Vmcs
     ensures { result ≡ (session_of b.now).vmcs }
 {
     let mut w16 = [0u16; 17];
-    words::get_all2(&mut w16, b, Record::W16);
+    words::get_all(&mut w16, b, Record::W16);
     let mut w32 = [0u32; 50];
-    words::get_all4(&mut w32, b, Record::W32);
+    words::get_all(&mut w32, b, Record::W32);
     let mut w64 = [0u64; 41];
-    words::get_all8(&mut w64, b, Record::W64);
+    words::get_all(&mut w64, b, Record::W64);
     let mut natural = [0u64; 46];
-    words::get_all8(&mut natural, b, Record::NATURAL);
+    words::get_all(&mut natural, b, Record::NATURAL);
     Vmcs {
-        w16: w16,
-        w32: w32,
-        w64: w64,
-        natural: natural,
+        w16,
+        w32,
+        w64,
+        natural,
     }
 }
 
@@ -183,56 +253,14 @@ fn queue_at(b: &[u8]) -> Queue
     ensures { result ≡ (session_of b.now).queue }
 {
     let mut vectors = [0u8; 64];
-    words::get_all1(&mut vectors, b, Record::VECTORS);
+    words::get_all(&mut vectors, b, Record::VECTORS);
     let mut codes = [0u32; 64];
-    words::get_all4(&mut codes, b, Record::CODES);
+    words::get_all(&mut codes, b, Record::CODES);
     Queue {
-        waiting: words::get1(b, Record::WAITING),
-        vectors: vectors,
+        waiting: u8::get(b, Record::WAITING),
+        vectors,
         coded: coded_at(b),
-        codes: codes,
-    }
-}
-
-// The pair that stands at an offset, and below the fixed bits: proofs/Capabilities.antt says which are the session's.
-#[tactic(auto, unfolding(crate::specs::Codec::pair_of))]
-pub fn pair_at(b: &[u8], at: usize) -> Pair
-    requires { at + 8 ≤ length b.now }
-    ensures { result ≡ pair_of (drop at b.now) }
-{
-    Pair {
-        allowed0: words::get4(b, at),
-        allowed1: words::get4(b, at + 4),
-    }
-}
-
-#[tactic(auto, unfolding(crate::specs::Codec::session_of))]
-fn pairs_at(b: &[u8]) -> [Pair; 5]
-    requires { length b.now ≡ LENGTH }
-    ensures { result ≡ (session_of b.now).capabilities.pairs }
-{
-    let mut out = [Pair {
-        allowed0: 0,
-        allowed1: 0,
-    }; 5];
-    let mut i = 0;
-    let mut from = Record::PAIRS;
-    while i < 5 {
-        out[i] = pair_at(b, from);
-        from += 8;
-        i += 1;
-    }
-    out
-}
-
-#[tactic(auto, unfolding(crate::specs::Codec::fixed_of))]
-pub fn fixed_at(b: &[u8], at: usize) -> Fixed
-    requires { at + 16 ≤ length b.now }
-    ensures { result ≡ fixed_of (drop at b.now) }
-{
-    Fixed {
-        fixed0: words::get8(b, at),
-        fixed1: words::get8(b, at + 8),
+        codes,
     }
 }
 
@@ -241,11 +269,15 @@ fn capabilities_at(b: &[u8]) -> Capabilities
     requires { length b.now ≡ LENGTH }
     ensures { result ≡ (session_of b.now).capabilities }
 {
-    let pairs = pairs_at(b);
+    let mut pairs = [Pair {
+        allowed0: 0,
+        allowed1: 0,
+    }; 5];
+    words::get_all(&mut pairs, b, Record::PAIRS);
     Capabilities {
-        pairs: pairs,
-        cr0: fixed_at(b, Record::CR0),
-        cr4: fixed_at(b, Record::CR4),
+        pairs,
+        cr0: Fixed::get(b, Record::CR0),
+        cr4: Fixed::get(b, Record::CR4),
     }
 }
 
@@ -255,8 +287,8 @@ pub fn xcr0_at(b: &[u8]) -> Xcr0
     ensures { result ≡ (session_of b.now).xcr0 }
 {
     Xcr0 {
-        value: words::get8(b, Record::XCR0),
-        supported: words::get8(b, Record::SUPPORTED),
+        value: u64::get(b, Record::XCR0),
+        supported: u64::get(b, Record::SUPPORTED),
     }
 }
 
@@ -267,7 +299,7 @@ pub fn session_at(b: &[u8]) -> Session
 {
     Session {
         progress: progress_at(b),
-        regs: regs_at(b),
+        regs: GeneralRegisters::get(b, Record::REGS),
         vmcs: vmcs_at(b),
         queue: queue_at(b),
         capabilities: capabilities_at(b),
@@ -277,20 +309,13 @@ pub fn session_at(b: &[u8]) -> Session
 
 // The session of a record, or refusal 2. The exported calls use `accepts` and read what they need, so that a refused call builds no session.
 #[tactic(auto, unfolding(crate::specs::Codec::decode_of))]
-pub fn decode(b: &[u8]) -> Decoded
-    ensures { result ≡ decode_of b.now }
+pub fn decode(b: &[u8]) -> Result<Session, Refusal>
+    ensures { decoded_by result ≡ decode_of b.now }
 {
-    if accepts(b) {
-        Decoded {
-            refusal: 0,
-            session: session_at(b),
-        }
-    } else {
-        Decoded {
-            refusal: Refusal::BYTES,
-            session: vcpu_session::new(),
-        }
+    if !accepts(b) {
+        return Err(Refusal::Bytes);
     }
+    Ok(session_at(b))
 }
 
 // ---- Reading one value of a record in place.
@@ -301,16 +326,17 @@ pub fn reg_at(b: &[u8], index: usize) -> u64
     requires { (length b.now ≡ LENGTH) × (index < 16) }
     ensures { result ≡ get_or (list_of (session_of b.now).regs) index 0 }
 {
-    words::get8(b, Record::REGS + index * 8)
+    u64::get(b, Record::REGS + index * 8)
 }
 
-// The fields at a place of the array of their width.
+// The fields at a place of the array of their width. Each width has its own function: a trait of widths takes an impl for each that is longer
+// than the function, here and once more for the stores of record_edits, and its callers would have to name the width beside the field's name.
 #[tactic(auto, unfolding(crate::specs::Codec::session_of))]
 fn w16_at(b: &[u8], place: usize) -> u16
     requires { (length b.now ≡ LENGTH) × (place < 17) }
     ensures { result ≡ value_of (session_of b.now).vmcs (Word16 place) }
 {
-    words::get2(b, Record::W16 + place * 2)
+    u16::get(b, Record::W16 + place * 2)
 }
 
 #[tactic(auto, unfolding(crate::specs::Codec::session_of))]
@@ -318,7 +344,7 @@ pub fn w32_at(b: &[u8], place: usize) -> u32
     requires { (length b.now ≡ LENGTH) × (place < 50) }
     ensures { result ≡ value_of (session_of b.now).vmcs (Word32 place) }
 {
-    words::get4(b, Record::W32 + place * 4)
+    u32::get(b, Record::W32 + place * 4)
 }
 
 #[tactic(auto, unfolding(crate::specs::Codec::session_of))]
@@ -326,7 +352,7 @@ pub fn w64_at(b: &[u8], place: usize) -> u64
     requires { (length b.now ≡ LENGTH) × (place < 41) }
     ensures { result ≡ value_of (session_of b.now).vmcs (Word64 place) }
 {
-    words::get8(b, Record::W64 + place * 8)
+    u64::get(b, Record::W64 + place * 8)
 }
 
 #[tactic(auto, unfolding(crate::specs::Codec::session_of))]
@@ -334,7 +360,7 @@ pub fn natural_at(b: &[u8], place: usize) -> u64
     requires { (length b.now ≡ LENGTH) × (place < 46) }
     ensures { result ≡ value_of (session_of b.now).vmcs (Natural place) }
 {
-    words::get8(b, Record::NATURAL + place * 8)
+    u64::get(b, Record::NATURAL + place * 8)
 }
 
 // The field at a place of the table, where the widths stand in the order 16, 64, 32, natural.
@@ -343,16 +369,12 @@ pub fn field_at(b: &[u8], place: usize) -> u64
     requires { (length b.now ≡ LENGTH) × (place < 154) }
     ensures { result ≡ value_of (session_of b.now).vmcs (field_at place) }
 {
-    if place < 17 {
-        return w16_at(b, place) as u64;
+    match place {
+        0..17 => w16_at(b, place) as u64,
+        17..58 => w64_at(b, place - 17),
+        58..108 => w32_at(b, place - 58) as u64,
+        _ => natural_at(b, place - 108),
     }
-    if place < 58 {
-        return w64_at(b, place - 17);
-    }
-    if place < 108 {
-        return w32_at(b, place - 58) as u64;
-    }
-    natural_at(b, place - 108)
 }
 
 // ---- Writing a record of the right length. Each function also says that what it stores fits its type: what is stored is read back only then.
@@ -362,19 +384,10 @@ fn put_progress(b: &mut [u8], p: Progress)
     ensures b_after { b.new ≡ stored_at (PHASE ∷ LAUNCHED ∷ ENTRIES ∷ HELD ∷ []) (progress_parts p) b.old }
     ensures progress_fits { ProgressFits p }
 {
-    words::put1(b, Record::PHASE, p.phase);
-    words::put_flag(b, Record::LAUNCHED, p.launched);
-    words::put4(b, Record::ENTRIES, p.entries);
-    words::put4(b, Record::HELD, p.held);
-}
-
-fn put_regs(b: &mut [u8], g: GeneralRegisters)
-    requires { length b.old ≡ LENGTH }
-    ensures b_after { b.new ≡ stored_at (REGS ∷ []) (reg_parts g) b.old }
-    ensures numbers { Numbers 16 8 (list_of g) }
-{
-    let regs = regs::to_array(g);
-    words::put_all8(b, Record::REGS, &regs);
+    u8::put(b, Record::PHASE, p.phase);
+    bool::put(b, Record::LAUNCHED, p.launched);
+    u32::put(b, Record::ENTRIES, p.entries);
+    u32::put(b, Record::HELD, p.held);
 }
 
 fn put_vmcs(b: &mut [u8], v: Vmcs)
@@ -382,14 +395,10 @@ fn put_vmcs(b: &mut [u8], v: Vmcs)
     ensures b_after { b.new ≡ stored_at (W16 ∷ W32 ∷ W64 ∷ NATURAL ∷ []) (vmcs_parts v) b.old }
     ensures vmcs_fits { VmcsFits v }
 {
-    let w16 = v.w16;
-    words::put_all2(b, Record::W16, &w16);
-    let w32 = v.w32;
-    words::put_all4(b, Record::W32, &w32);
-    let w64 = v.w64;
-    words::put_all8(b, Record::W64, &w64);
-    let natural = v.natural;
-    words::put_all8(b, Record::NATURAL, &natural);
+    words::put_all(b, Record::W16, &v.w16);
+    words::put_all(b, Record::W32, &v.w32);
+    words::put_all(b, Record::W64, &v.w64);
+    words::put_all(b, Record::NATURAL, &v.natural);
 }
 
 fn put_queue(b: &mut [u8], q: Queue)
@@ -397,46 +406,10 @@ fn put_queue(b: &mut [u8], q: Queue)
     ensures b_after { b.new ≡ stored_at (WAITING ∷ VECTORS ∷ CODED ∷ CODES ∷ []) (queue_parts q) b.old }
     ensures queue_fits { QueueFits q }
 {
-    words::put1(b, Record::WAITING, q.waiting);
-    let vectors = q.vectors;
-    words::put_all1(b, Record::VECTORS, &vectors);
-    words::put8(b, Record::CODED, q.coded);
-    let codes = q.codes;
-    words::put_all4(b, Record::CODES, &codes);
-}
-
-#[tactic(auto, unfolding(crate::specs::Codec::pair_bytes))]
-fn put_pair(b: &mut [u8], at: usize, p: Pair)
-    requires { at + 8 ≤ length b.old }
-    ensures b_after { b.new ≡ sets b.old at (pair_bytes p) }
-    ensures pair_fits { PairFits p }
-{
-    words::put4(b, at, p.allowed0);
-    words::put4(b, at + 4, p.allowed1);
-}
-
-#[tactic(auto, unfolding(crate::specs::Codec::fixed_bytes))]
-fn put_fixed(b: &mut [u8], at: usize, f: Fixed)
-    requires { at + 16 ≤ length b.old }
-    ensures b_after { b.new ≡ sets b.old at (fixed_bytes f) }
-    ensures fixed_fits { FixedFits f }
-{
-    words::put8(b, at, f.fixed0);
-    words::put8(b, at + 8, f.fixed1);
-}
-
-fn put_pairs(b: &mut [u8], ps: [Pair; 5])
-    requires { length b.old ≡ LENGTH }
-    ensures b_after { b.new ≡ sets b.old PAIRS (flat_map pair_bytes ps) }
-    ensures all { All PairFits ps }
-{
-    let mut i: usize = 0;
-    let mut to = Record::PAIRS;
-    while i < 5 {
-        put_pair(b, to, ps[i]);
-        to += 8;
-        i += 1;
-    }
+    u8::put(b, Record::WAITING, q.waiting);
+    words::put_all(b, Record::VECTORS, &q.vectors);
+    u64::put(b, Record::CODED, q.coded);
+    words::put_all(b, Record::CODES, &q.codes);
 }
 
 fn put_capabilities(b: &mut [u8], c: Capabilities)
@@ -444,10 +417,9 @@ fn put_capabilities(b: &mut [u8], c: Capabilities)
     ensures b_after { b.new ≡ stored_at (PAIRS ∷ CR0 ∷ CR4 ∷ []) (capability_parts c) b.old }
     ensures capabilities_fit { CapabilitiesFit c }
 {
-    let pairs = c.pairs;
-    put_pairs(b, pairs);
-    put_fixed(b, Record::CR0, c.cr0);
-    put_fixed(b, Record::CR4, c.cr4);
+    words::put_all(b, Record::PAIRS, &c.pairs);
+    Fixed::put(b, Record::CR0, c.cr0);
+    Fixed::put(b, Record::CR4, c.cr4);
 }
 
 fn put_xcr0(b: &mut [u8], x: Xcr0)
@@ -455,8 +427,8 @@ fn put_xcr0(b: &mut [u8], x: Xcr0)
     ensures b_after { b.new ≡ stored_at (XCR0 ∷ SUPPORTED ∷ []) (xcr0_parts x) b.old }
     ensures xcr0_fits { Xcr0Fits x }
 {
-    words::put8(b, Record::XCR0, x.value);
-    words::put8(b, Record::SUPPORTED, x.supported);
+    u64::put(b, Record::XCR0, x.value);
+    u64::put(b, Record::SUPPORTED, x.supported);
 }
 
 pub fn put_session(b: &mut [u8], s: Session)
@@ -465,7 +437,7 @@ pub fn put_session(b: &mut [u8], s: Session)
     ensures fitting { Fitting s }
 {
     put_progress(b, s.progress);
-    put_regs(b, s.regs);
+    GeneralRegisters::put(b, Record::REGS, s.regs);
     put_vmcs(b, s.vmcs);
     put_queue(b, s.queue);
     put_capabilities(b, s.capabilities);
@@ -474,13 +446,13 @@ pub fn put_session(b: &mut [u8], s: Session)
 
 // Refusal 2: the length is wrong. The bytes are then as they were.
 #[tactic(auto, unfolding(crate::specs::Codec::encoded_of))]
-pub fn encode(b: &mut [u8], s: Session) -> u32
-    ensures b_after { encoded result b.new ≡ encoded_of s b.old }
-    ensures fitting { result ≡ 0 → Fitting s }
+pub fn encode(b: &mut [u8], s: Session) -> Result<(), Refusal>
+    ensures b_after { encoded (refusal_of result) b.new ≡ encoded_of s b.old }
+    ensures fitting { refusal_of result ≡ 0 → Fitting s }
 {
     if b.len() != Record::LENGTH {
-        return Refusal::BYTES;
+        return Err(Refusal::Bytes);
     }
     put_session(b, s);
-    0
+    Ok(())
 }

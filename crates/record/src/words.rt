@@ -1,204 +1,175 @@
-// Numbers of 1, 2, 4 and 8 bytes, least significant first, and yes/no bytes, in a slice of bytes: one of them, and runs of numbers.
-ghost use Rattle.std.specs.Prelude.{◌≡◌, ◌+◌, ◌*◌, ◌≤◌, length, drop};
+// Values that stand in a slice of bytes: numbers of 1, 2, 4 and 8 bytes, least significant first, yes/no bytes, and runs of values.
+ghost use Rattle.std.specs.Prelude.{◌≡◌, ℕ, ◌+◌, ◌*◌, ◌≤◌, List, length, drop};
+ghost use mathlib.Core.List.{flat_map};
 ghost use Rattle.std.proofs.lemmas.List.Edits.{sets};
-ghost use Rattle.bits.specs.Words.{flag};
 ghost use Rattle.bits.specs.LittleEndian.{little_endian, bytes_of};
-ghost use Rattle.record.specs.Runs.{numbers, number_bytes, flag_of, flag_bytes};
+ghost use Rattle.bits.proofs.LittleEndianLaws.{length_bytes_of};
+ghost use Rattle.record.specs.Runs.{read_all, All, Takes, flag_of, flag_bytes};
+ghost use Rattle.record.specs.Sizes.{length_flag_bytes};
 
-// ---- One number.
+// A value that takes SIZE bytes, wherever it stands.
+pub trait Stored: Copy {
+    ghost SIZE: { ℕ };
 
-pub fn get1(b: &[u8], at: usize) -> u8
-    requires { at + 1 ≤ length b.now }
-    ensures { result ≡ little_endian 1 (drop at b.now) }
-{
-    b[at]
+    // The value that bytes start with, and the bytes of a value.
+    ghost read: { List ℕ → Self };
+
+    ghost write: { Self → List ℕ };
+
+    // The numbers of a value fit their types, as they do in code.
+    ghost Fits: { Self → Type 0 };
+
+    const SIZE: usize;
+
+    fn get(b: &[u8], at: usize) -> Self
+        requires { at + SIZE ≤ length b.now }
+        ensures { result ≡ read (drop at b.now) };
+
+    // What is stored is read back only where it fits.
+    fn put(b: &mut [u8], at: usize, v: Self)
+        requires { at + SIZE ≤ length b.old }
+        ensures b_after { b.new ≡ sets b.old at (write v) }
+        ensures fits { Fits v };
+
+    ghost size: { (v : Self) → length (write v) ≡ SIZE };
 }
 
-pub fn get2(b: &[u8], at: usize) -> u16
-    requires { at + 2 ≤ length b.now }
-    ensures { result ≡ little_endian 2 (drop at b.now) }
-{
-    let low = get1(b, at);
-    let high = get1(b, at + 1);
-    low as u16 + high as u16 * 0x100
-}
+// ---- Numbers.
 
-pub fn get4(b: &[u8], at: usize) -> u32
-    requires { at + 4 ≤ length b.now }
-    ensures { result ≡ little_endian 4 (drop at b.now) }
-{
-    let low = get2(b, at);
-    let high = get2(b, at + 2);
-    low as u32 + high as u32 * 0x1_0000
-}
+impl Stored for u8 {
+    ghost SIZE = { 1 };
 
-pub fn get8(b: &[u8], at: usize) -> u64
-    requires { at + 8 ≤ length b.now }
-    ensures { result ≡ little_endian 8 (drop at b.now) }
-{
-    let low = get4(b, at);
-    let high = get4(b, at + 4);
-    low as u64 + high as u64 * 0x1_0000_0000
-}
+    ghost read = { little_endian 1 };
 
-#[tactic(auto, unfolding(bits::specs::LittleEndian::bytes_of))]
-pub fn put1(b: &mut [u8], at: usize, v: u8)
-    requires { at + 1 ≤ length b.old }
-    ensures { b.new ≡ sets b.old at (bytes_of 1 v) }
-{
-    b[at] = v;
-}
+    ghost write = { bytes_of 1 };
 
-pub fn put2(b: &mut [u8], at: usize, v: u16)
-    requires { at + 2 ≤ length b.old }
-    ensures { b.new ≡ sets b.old at (bytes_of 2 v) }
-{
-    put1(b, at, (v % 0x100) as u8);
-    put1(b, at + 1, (v / 0x100) as u8);
-}
+    ghost Fits = { Takes 1 };
 
-pub fn put4(b: &mut [u8], at: usize, v: u32)
-    requires { at + 4 ≤ length b.old }
-    ensures { b.new ≡ sets b.old at (bytes_of 4 v) }
-{
-    put2(b, at, (v % 0x1_0000) as u16);
-    put2(b, at + 2, (v / 0x1_0000) as u16);
-}
+    const SIZE: usize = 1;
 
-pub fn put8(b: &mut [u8], at: usize, v: u64)
-    requires { at + 8 ≤ length b.old }
-    ensures { b.new ≡ sets b.old at (bytes_of 8 v) }
-{
-    put4(b, at, (v % 0x1_0000_0000) as u32);
-    put4(b, at + 4, (v / 0x1_0000_0000) as u32);
-}
-
-// ---- Runs of numbers: `out` is filled from `at` on, and the numbers of `vs` are stored from `at` on.
-
-pub fn get_all1(out: &mut [u8], b: &[u8], at: usize)
-    requires { at + length out.old * 1 ≤ length b.now }
-    ensures { out.new ≡ numbers 1 (length out.old) (drop at b.now) }
-{
-    let mut i = 0;
-    let mut from = at;
-    while i < out.len() {
-        out[i] = get1(b, from);
-        from += 1;
-        i += 1;
+    fn get(b: &[u8], at: usize) -> u8 {
+        b[at]
     }
+
+    fn put(b: &mut [u8], at: usize, v: u8) {
+        b[at] = v;
+    }
+
+    ghost size = { length_bytes_of 1 };
 }
 
-pub fn get_all2(out: &mut [u16], b: &[u8], at: usize)
-    requires { at + length out.old * 2 ≤ length b.now }
-    ensures { out.new ≡ numbers 2 (length out.old) (drop at b.now) }
-{
-    let mut i = 0;
-    let mut from = at;
-    while i < out.len() {
-        out[i] = get2(b, from);
-        from += 2;
-        i += 1;
+impl Stored for u16 {
+    ghost SIZE = { 2 };
+
+    ghost read = { little_endian 2 };
+
+    ghost write = { bytes_of 2 };
+
+    ghost Fits = { Takes 2 };
+
+    const SIZE: usize = 2;
+
+    fn get(b: &[u8], at: usize) -> u16 {
+        let bytes = <[u8; 2]>::try_from(&b[at..at + 2]).unwrap();
+        u16::from_le_bytes(bytes)
     }
+
+    fn put(b: &mut [u8], at: usize, v: u16) {
+        b[at..at + 2].copy_from_slice(&v.to_le_bytes());
+    }
+
+    ghost size = { length_bytes_of 2 };
 }
 
-pub fn get_all4(out: &mut [u32], b: &[u8], at: usize)
-    requires { at + length out.old * 4 ≤ length b.now }
-    ensures { out.new ≡ numbers 4 (length out.old) (drop at b.now) }
-{
-    let mut i = 0;
-    let mut from = at;
-    while i < out.len() {
-        out[i] = get4(b, from);
-        from += 4;
-        i += 1;
+impl Stored for u32 {
+    ghost SIZE = { 4 };
+
+    ghost read = { little_endian 4 };
+
+    ghost write = { bytes_of 4 };
+
+    ghost Fits = { Takes 4 };
+
+    const SIZE: usize = 4;
+
+    fn get(b: &[u8], at: usize) -> u32 {
+        let bytes = <[u8; 4]>::try_from(&b[at..at + 4]).unwrap();
+        u32::from_le_bytes(bytes)
     }
+
+    fn put(b: &mut [u8], at: usize, v: u32) {
+        b[at..at + 4].copy_from_slice(&v.to_le_bytes());
+    }
+
+    ghost size = { length_bytes_of 4 };
 }
 
-pub fn get_all8(out: &mut [u64], b: &[u8], at: usize)
-    requires { at + length out.old * 8 ≤ length b.now }
-    ensures { out.new ≡ numbers 8 (length out.old) (drop at b.now) }
-{
-    let mut i = 0;
-    let mut from = at;
-    while i < out.len() {
-        out[i] = get8(b, from);
-        from += 8;
-        i += 1;
-    }
-}
+impl Stored for u64 {
+    ghost SIZE = { 8 };
 
-pub fn put_all1(b: &mut [u8], at: usize, vs: &[u8])
-    requires { at + length vs.now * 1 ≤ length b.old }
-    ensures { b.new ≡ sets b.old at (number_bytes 1 vs.now) }
-{
-    let mut i = 0;
-    let mut to = at;
-    while i < vs.len() {
-        put1(b, to, vs[i]);
-        to += 1;
-        i += 1;
-    }
-}
+    ghost read = { little_endian 8 };
 
-pub fn put_all2(b: &mut [u8], at: usize, vs: &[u16])
-    requires { at + length vs.now * 2 ≤ length b.old }
-    ensures { b.new ≡ sets b.old at (number_bytes 2 vs.now) }
-{
-    let mut i = 0;
-    let mut to = at;
-    while i < vs.len() {
-        put2(b, to, vs[i]);
-        to += 2;
-        i += 1;
-    }
-}
+    ghost write = { bytes_of 8 };
 
-pub fn put_all4(b: &mut [u8], at: usize, vs: &[u32])
-    requires { at + length vs.now * 4 ≤ length b.old }
-    ensures { b.new ≡ sets b.old at (number_bytes 4 vs.now) }
-{
-    let mut i = 0;
-    let mut to = at;
-    while i < vs.len() {
-        put4(b, to, vs[i]);
-        to += 4;
-        i += 1;
-    }
-}
+    ghost Fits = { Takes 8 };
 
-pub fn put_all8(b: &mut [u8], at: usize, vs: &[u64])
-    requires { at + length vs.now * 8 ≤ length b.old }
-    ensures { b.new ≡ sets b.old at (number_bytes 8 vs.now) }
-{
-    let mut i = 0;
-    let mut to = at;
-    while i < vs.len() {
-        put8(b, to, vs[i]);
-        to += 8;
-        i += 1;
+    const SIZE: usize = 8;
+
+    fn get(b: &[u8], at: usize) -> u64 {
+        let bytes = <[u8; 8]>::try_from(&b[at..at + 8]).unwrap();
+        u64::from_le_bytes(bytes)
     }
+
+    fn put(b: &mut [u8], at: usize, v: u64) {
+        b[at..at + 8].copy_from_slice(&v.to_le_bytes());
+    }
+
+    ghost size = { length_bytes_of 8 };
 }
 
 // ---- Yes/no bytes: 1 is yes, 0 is no.
 
-fn flag_byte(on: bool) -> u8
-    ensures { result ≡ flag on }
-{
-    if on { 1 } else { 0 }
+impl Stored for bool {
+    ghost SIZE = { 1 };
+
+    ghost read = { flag_of };
+
+    ghost write = { flag_bytes };
+
+    ghost Fits = { λ v. Unit };
+
+    const SIZE: usize = 1;
+
+    #[tactic(auto, unfolding(crate::specs::Runs::flag_of))]
+    fn get(b: &[u8], at: usize) -> bool {
+        u8::get(b, at) == 1
+    }
+
+    #[tactic(auto, unfolding(crate::specs::Runs::flag_bytes))]
+    fn put(b: &mut [u8], at: usize, v: bool) {
+        u8::put(b, at, u8::from(v));
+    }
+
+    ghost size = { length_flag_bytes };
 }
 
-#[tactic(auto, unfolding(crate::specs::Runs::flag_of))]
-pub fn get_flag(b: &[u8], at: usize) -> bool
-    requires { at + 1 ≤ length b.now }
-    ensures { result ≡ flag_of (drop at b.now) }
+// ---- Runs of values: `out` is filled from `at` on, and the values of `vs` are stored from `at` on.
+
+pub fn get_all<T: Stored>(out: &mut [T], b: &[u8], at: usize)
+    requires { at + length out.old * T.SIZE ≤ length b.now }
+    ensures { out.new ≡ read_all T.SIZE T.read (length out.old) (drop at b.now) }
 {
-    get1(b, at) == 1
+    for (i, v) in out.iter_mut().enumerate() {
+        *v = T::get(b, at + i * T::SIZE);
+    }
 }
 
-#[tactic(auto, unfolding(crate::specs::Runs::flag_bytes))]
-pub fn put_flag(b: &mut [u8], at: usize, on: bool)
-    requires { at + 1 ≤ length b.old }
-    ensures { b.new ≡ sets b.old at (flag_bytes on) }
+pub fn put_all<T: Stored>(b: &mut [u8], at: usize, vs: &[T])
+    requires { at + length vs.now * T.SIZE ≤ length b.old }
+    ensures b_after { b.new ≡ sets b.old at (flat_map T.write vs.now) }
+    ensures fits { All T.Fits vs.now }
 {
-    put1(b, at, flag_byte(on));
+    for (i, v) in vs.iter().enumerate() {
+        T::put(b, at + i * T::SIZE, *v);
+    }
 }

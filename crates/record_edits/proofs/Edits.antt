@@ -5,11 +5,9 @@ use mathlib.Core.List.{List}
 use Prim.Native.Nat.{ℕ, ◌+◌, ◌-◌, ◌*◌, ◌/◌, ◌^◌, ◌≤◌, ◌<◌}
 use native.Mathlib.Nat.{mul-one}
 use native.Mathlib.Omega.{arith}
-use lib.ListN.{get_or, take, drop, set}
+use lib.ListN.{take, drop, set}
 use lib.Seq.{sets}
 use lib.Dec.{lit<}
-use mir.Syntax.{w8}
-use mir.Val.{Fits}
 use Rattle.bits.specs.Words.{with_bit}
 use Rattle.bits.specs.LittleEndian.{bytes_of, Below}
 use Rattle.bits.proofs.LittleEndianLaws.{length_bytes_of}
@@ -21,26 +19,34 @@ use Rattle.vcpu_session.specs.declared.Progress.{Progress}
 use Rattle.vcpu_session.specs.declared.Queue.{Queue}
 use Rattle.vcpu_session.specs.declared.Session.{Session}
 use Rattle.vcpu_session.proofs.LawfulLaws.{lawful_alike, lawful_progress, lawful_phase, lawful_queue}
-use Rattle.vcpu_events.specs.Queue.{shifted, pushed, popped}
-use Rattle.vcpu_events.specs.declared.Event.{Event}
+use Rattle.vcpu_events.specs.Queue.{Event, shifted, pushed, popped}
 use Rattle.record.specs.Record as Record
 use Rattle.record.specs.Runs.{Takes, Numbers, number_bytes, flag_bytes}
 use Rattle.record.specs.Codec.{session_of, with_field, encode_of, accepted_of}
 use Rattle.record.specs.Fitting.{ProgressFits, Fitting}
-use Rattle.record.proofs.Flags.{length_flag_bytes}
+use Rattle.record.specs.Sizes.{length_flag_bytes}
 use Rattle.record.proofs.Accepted.{whole}
 use Rattle.record.proofs.FittingLaws.{progress_fits_lem, regs_fits, vmcs_fits_lem, queue_fits_lem, xcr0_fits, in_phase_fits}
 use Rattle.record.proofs.PartNames as Part
 use Rattle.record.proofs.RoundTrip.{lawful_accepted, session_read, session_fits, session_lawful, record_written}
+use Rattle.record_edits.specs.declared.SessionRecord.{SessionRecord}
+use Rattle.record_edits.specs.Edited.{session, Edited}
 use Rattle.record_edits.specs.Holds.{Holds}
+use Rattle.record_edits.proofs.Kept.{below_encoded}
 use Rattle.record_edits.proofs.Fits.{numbers_set, numbers_shifted, listed, put_fits}
 use Rattle.record_edits.proofs.Parts.{Form, length_run, Spells, value_put, element_put, run_shifted}
 
 -- ---- the bytes of a session
 
+-- bytes that hold a session, each below 256
+pub record Kept (b : List ℕ) (s : Session) : Type 0 where
+  pub accepted : accepted_of b ≡ true
+  pub below : Below 256 b
+  pub session : session_of b ≡ s
+
 -- of one that a record can hold
-pub held : {b : List ℕ} {s : Session} → Spells b s → Lawful s → Holds b s
-held {b} {s} h l = record { accepted = rw h.bytes (lawful_accepted s h.fits l); session = rw h.bytes (session_read s h.fits) }
+pub held : {b : List ℕ} {s : Session} → Spells b s → Lawful s → Kept b s
+held {b} {s} h l = record { below = rw h.bytes (below_encoded s); accepted = rw h.bytes (lawful_accepted s h.fits l); session = rw h.bytes (session_read s h.fits) }
 
 pub held_bytes : {s : Session} {b : List ℕ} → Below 256 b → Holds b s → b ≡ encode_of s
 held_bytes {s} {b} below h = sym (record_written b (whole b h.accepted) below h.accepted) ∙ ap encode_of h.session
@@ -227,61 +233,65 @@ module _ {b : List ℕ} {s : Session} (h : Spells b s) where
 
 -- ---- an accepted record, after one edit or several
 
--- `known` is what owning a slice of bytes tells
-module _ (b : List ℕ) (ok : accepted_of b ≡ true) (known : (i : ℕ) → Fits w8 (get_or b i 0)) where
-  own : Spells b (session_of b)
-  own =
-      let below : Below 256 b = λ i. (known i).fits in
-      record { fits = session_fits b (whole b ok) below; bytes = sym (record_written b (whole b ok) below ok) }
+module _ (r : SessionRecord) where
+  abbrev b : List ℕ
+  b = r.bytes.now
 
-  lawful : Lawful (session_of b)
-  lawful = session_lawful b ok
+  own : Spells b (session r)
+  own = record { fits = session_fits b (whole b r.accepted) r.below; bytes = sym (record_written b (whole b r.accepted) r.below r.accepted) }
+
+  lawful : Lawful (session r)
+  lawful = session_lawful b r.accepted
 
   pub field_held : {after : List ℕ} (g : Field) (x : ℕ) → place_of g < size_of g → x < 2 ^ width_bits g → after ≡ sets b (offset g) (bytes_of (bytes g) x)
-      → Holds after (with_field (session_of b) g x)
+      → Kept after (with_field (session r) g x)
   field_held g x place small e = held (with_field_lem own g x place small e) (lawful_alike lawful refl)
 
   pub reg_held : {after : List ℕ} (i x : ℕ) → i < 16 → x < 2 ^ 64 → after ≡ sets b (Record.REGS + i * 8) (bytes_of 8 x)
-      → Holds after (with_regs (session_of b) (with_reg (session_of b).regs i x))
+      → Kept after (with_regs (session r) (with_reg (session r).regs i x))
   reg_held i x place small e = held (with_reg_lem own i x place small e) (lawful_alike lawful refl)
 
-  pub regs_held : {after : List ℕ} (g : GeneralRegisters) → Numbers 16 8 (list_of g) → after ≡ sets b Record.REGS (number_bytes 8 (list_of g)) → Holds after (with_regs (session_of b) g)
+  pub regs_held : {after : List ℕ} (g : GeneralRegisters) → Numbers 16 8 (list_of g) → after ≡ sets b Record.REGS (number_bytes 8 (list_of g)) → Kept after (with_regs (session r) g)
   regs_held g small e = held (with_regs_lem own g small e) (lawful_alike lawful refl)
 
-  pub phase_held : {after : List ℕ} (x : ℕ) → x ≤ 4 → after ≡ sets b Record.PHASE (bytes_of 1 x) → Holds after (with_progress (session_of b) (in_phase (session_of b).progress x))
+  pub phase_held : {after : List ℕ} (x : ℕ) → x ≤ 4 → after ≡ sets b Record.PHASE (bytes_of 1 x) → Kept after (with_progress (session r) (in_phase (session r).progress x))
   phase_held x h e = held (with_phase own x (omega arith) e) (lawful_phase lawful x h)
 
-  pub xcr0_held : {after : List ℕ} (x : ℕ) → x < 2 ^ 64 → after ≡ sets b Record.XCR0 (bytes_of 8 x) → Holds after (with_xcr0 (session_of b) (with_value (session_of b).xcr0 x))
+  pub xcr0_held : {after : List ℕ} (x : ℕ) → x < 2 ^ 64 → after ≡ sets b Record.XCR0 (bytes_of 8 x) → Kept after (with_xcr0 (session r) (with_value (session r).xcr0 x))
   xcr0_held x small e = held (with_xcr0_lem own x small e) (lawful_alike lawful refl)
 
   pub progress_held : {b₁ b₂ b₃ b₄ : List ℕ} (p : Progress) → ProgressFits p → p.phase ≤ 4 → p.held ≤ p.entries
       → b₁ ≡ sets b Record.PHASE (bytes_of 1 p.phase) → b₂ ≡ sets b₁ Record.LAUNCHED (flag_bytes p.launched)
       → b₃ ≡ sets b₂ Record.ENTRIES (bytes_of 4 p.entries) → b₄ ≡ sets b₃ Record.HELD (bytes_of 4 p.held)
-      → Holds b₄ (with_progress (session_of b) p)
+      → Kept b₄ (with_progress (session r) p)
   progress_held p f phase counts e₁ e₂ e₃ e₄ =
       let two = with_launched_lem (with_phase own p.phase f.phase e₁) p.launched e₂ in
       held (with_held_lem (with_entries_lem two p.entries f.entries e₃) p.held f.held e₄) (lawful_progress lawful p phase counts)
 
   -- n events wait, `code` is the one that is stored, and `word` says which events have one
-  pub push_held : {n code word : ℕ} {b₁ b₂ b₃ b₄ : List ℕ} (e : Event) → n ≡ (session_of b).queue.waiting → code ≡ cond e.coded e.code 0
-      → word ≡ with_bit n e.coded (session_of b).queue.coded
+  pub push_held : {n code word : ℕ} {b₁ b₂ b₃ b₄ : List ℕ} (e : Event) → n ≡ (session r).queue.waiting → code ≡ cond e.coded e.code 0
+      → word ≡ with_bit n e.coded (session r).queue.coded
       → n < 64 → Takes 1 e.vector → Takes 4 code → Takes 8 word
       → b₁ ≡ sets b (Record.VECTORS + n) (bytes_of 1 e.vector) → b₂ ≡ sets b₁ Record.CODED (bytes_of 8 word)
       → b₃ ≡ sets b₂ (Record.CODES + n * 4) (bytes_of 4 code) → b₄ ≡ sets b₃ Record.WAITING (bytes_of 1 (n + 1))
-      → Holds b₄ (with_queue (session_of b) (pushed (session_of b).queue e))
+      → Kept b₄ (with_queue (session r) (pushed (session r).queue e))
   unfolding pushed
   push_held {n} {code} {word} e read stored marked room vector small fits e₁ e₂ e₃ e₄ =
       let two = with_coded_lem (with_vector own n e.vector room vector e₁) word fits e₂ in
       rw (← read, ← stored, ← marked) (held (with_waiting_lem (with_code two n code room small e₃) (n + 1) (omega arith) e₄) (lawful_queue lawful _ (omega arith)))
 
   -- n events wait after it, and `word` says which of them have a code
-  pub pop_held : {n word : ℕ} {b₁ b₂ b₃ b₄ : List ℕ} → n ≡ (session_of b).queue.waiting - 1 → word ≡ (session_of b).queue.coded / 2
+  pub pop_held : {n word : ℕ} {b₁ b₂ b₃ b₄ : List ℕ} → n ≡ (session r).queue.waiting - 1 → word ≡ (session r).queue.coded / 2
       → b₁ ≡ sets b Record.WAITING (bytes_of 1 n) → b₂ ≡ down b₁ Record.VECTORS 1 n (bytes_of 1 0)
       → b₃ ≡ sets b₂ Record.CODED (bytes_of 8 word) → b₄ ≡ down b₃ Record.CODES 4 (n * 4) (bytes_of 4 0)
-      → Holds b₄ (with_queue (session_of b) (popped (session_of b).queue))
+      → Kept b₄ (with_queue (session r) (popped (session r).queue))
   unfolding popped
   pop_held {n} {word} less halved e₁ e₂ e₃ e₄ =
       let few : n < 64 = omega (arith, lawful.waiting) in
       let small : Takes 8 word = omega (arith, own.fits.queue.coded) in
       let two = with_coded_lem (vectors_down (with_waiting_lem own n (omega arith) e₁) n few e₂) word small e₃ in
       rw (← less, ← halved) (held (codes_down two n few e₄) (lawful_queue lawful _ (omega arith)))
+
+-- an edit seen on the bytes that the record was borrowed from
+pub seen : {old new : SessionRecord} {f : Session → Session} → Edited old new f → {b after : List ℕ} → old.bytes.now ≡ b → after ≡ new.bytes.now → Holds after (f (session_of b))
+seen {old} {new} h came left = rw (← came, left) (record { accepted = new.accepted; session = h.holds })

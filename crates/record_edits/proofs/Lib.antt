@@ -2,4 +2,5 @@
 pub mod Parts
 pub mod Moves
 pub mod Fits
+pub mod Kept
 pub mod Edits

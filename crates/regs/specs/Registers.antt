@@ -1,9 +1,8 @@
 -- The general-purpose registers, by name and by index (document 01, "Registers"). Assumes nothing.
-use Rattle.std.specs.Prelude.{cond, List, [], ◌∷◌, ℕ, get_or, set, eqb, ltb}
+use Rattle.std.specs.Prelude.{cond, List, [], ◌∷◌, ℕ, Result, Ok, Err, get_or, set, eqb, ltb}
+use Rattle.definitions.specs.Refusals.{number}
+use Rattle.definitions.specs.declared.refusal.Refusal.{Refusal}
 use Rattle.regs.specs.declared.GeneralRegisters.{GeneralRegisters}
-use Rattle.regs.specs.declared.RegAnswer.{RegAnswer}
-use Rattle.regs.specs.declared.RegAnswer.TheVariants.{Value, Refused}
-use Rattle.regs.specs.declared.RegWritten.{RegWritten}
 
 -- the registers in the order of their encoding (SDM 2A, table 2-2)
 abbrev pub list_of : GeneralRegisters → List ℕ
@@ -37,8 +36,13 @@ abbrev pub with_reg : GeneralRegisters → ℕ → ℕ → GeneralRegisters
 with_reg g i x = of_list (set (list_of g) i x)
 
 -- 23: index 4, the place of RSP, or above 15
-unfoldable pub reg_of_index : GeneralRegisters → ℕ → RegAnswer
-reg_of_index g i = cond (ltb 15 i) (Refused 23) (cond (eqb i 4) (Refused 23) (Value (get_or (list_of g) i 0)))
+unfoldable pub reg_of_index : GeneralRegisters → ℕ → Result ℕ ℕ
+reg_of_index g i = cond (ltb 15 i) (Err 23) (cond (eqb i 4) (Err 23) (Ok (get_or (list_of g) i 0)))
+
+-- the number of a write, and the registers after it: as they were where it is refused
+pub record RegWritten : Type 0 where
+  pub refusal : ℕ
+  pub regs : GeneralRegisters
 
 abbrev pub reg_written : ℕ → GeneralRegisters → RegWritten
 reg_written n g = record { refusal = n; regs = g }
@@ -46,3 +50,8 @@ reg_written n g = record { refusal = n; regs = g }
 -- 23: index 4, the place of RSP, or above 15
 unfoldable pub with_reg_of_index : GeneralRegisters → ℕ → ℕ → RegWritten
 with_reg_of_index g i x = cond (ltb 15 i) (reg_written 23 g) (cond (eqb i 4) (reg_written 23 g) (reg_written 0 (with_reg g i x)))
+
+-- a write's answer in the code, beside the registers that came in
+abbrev pub written_from : GeneralRegisters → Result GeneralRegisters Refusal → RegWritten
+written_from g (Ok next) = reg_written 0 next
+written_from g (Err e) = reg_written (number e) g

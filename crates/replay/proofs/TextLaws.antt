@@ -1,15 +1,13 @@
 -- Laws of the loops that read a text. Assumes nothing.
 use Prim.Native.Nat.{ℕ, ◌+◌, ◌*◌, ◌%◌, ◌^◌, ◌≤◌, ◌<◌}
 use native.Mathlib.Numerals.{add-one}
-use native.Mathlib.Omega.{arith}
 use mathlib.Core.Path.{◌≡◌}
-use mathlib.Core.Bool.{true, false}
 use mathlib.Core.List.{List, [], ◌∷◌}
 use borrow.Author.Tests.{lt-ltb, le-ltb, eq-eqb, ne_eqb}
 use lib.ListN.{length, get_or, drop, drop_of_length-le}
 use lib.Seq.{drop-cons}
 use Rattle.replay.specs.declared.text.Number.{Number}
-use Rattle.replay.specs.Text.{digit_value, number_from, number_at, after_byte, case_at, line_end, starts_with}
+use Rattle.replay.specs.Text.{digit_value, number_from, number_at, after_byte, case_at}
 
 -- ---- a number: the whole spells what the rest spells after value
 
@@ -38,39 +36,3 @@ pub eight : (s : List ℕ) (at next : ℕ) (a b c d e f g h : Number) → a ≡ 
     → record { numbers = a.value ∷ b.value ∷ c.value ∷ d.value ∷ e.value ∷ f.value ∷ g.value ∷ h.value ∷ []; next = next } ≡ case_at s at
 unfolding case_at
 eight s at next a b c d e f g h ea eb ec ed ee ef eg eh en = rw (en, eh, eg, ef, ee, ed, ec, eb, ea)
-
--- ---- the first line: its end is i after that of the rest
-
-module _ (s : List ℕ) (i : ℕ) (inv : line_end s ≡ i + line_end (drop i s)) where
-  pub line_none : length s ≤ i → i ≡ line_end s
-  unfolding line_end
-  line_none h = rw (inv, drop_of_length-le s) (omega arith)
-
-  module _ (h : i < length s) where
-    pub line_stop : get_or s i 0 ≡ 10 → i + 1 ≡ line_end s
-    unfolding line_end
-    line_stop e = rw (inv, drop-cons s i 0, eq-eqb (get_or s i 0) 10)
-
-    pub line_more : (get_or s i 0 ≡ 10 → ⊥) → line_end s ≡ i + 1 + line_end (drop (i + 1) s)
-    unfolding line_end
-    line_more e = rw (inv, add-one, drop-cons s i 0, ne_eqb (get_or s i 0) 10) (omega arith)
-
--- ---- the start of a text: what is left of both decides
-
-module _ (s start : List ℕ) (i : ℕ) (inv : starts_with start s ≡ starts_with (drop i start) (drop i s)) where
-  pub start_all : length start ≤ i → true ≡ starts_with start s
-  unfolding starts_with
-  start_all h = rw (inv, drop_of_length-le start)
-
-  module _ (h : i < length start) where
-    pub start_short : length s ≤ i → false ≡ starts_with start s
-    unfolding starts_with
-    start_short l = rw (inv, drop-cons start i 0, drop_of_length-le s)
-
-    pub start_other : i < length s → (get_or s i 0 ≡ get_or start i 0 → ⊥) → false ≡ starts_with start s
-    unfolding starts_with
-    start_other l e = rw (inv, drop-cons start i 0, drop-cons s i 0, ne_eqb (get_or s i 0) (get_or start i 0))
-
-    pub start_more : i < length s → get_or s i 0 ≡ get_or start i 0 → starts_with start s ≡ starts_with (drop (i + 1) start) (drop (i + 1) s)
-    unfolding starts_with
-    start_more l e = rw (inv, drop-cons start i 0, drop-cons s i 0, eq-eqb (get_or s i 0) (get_or start i 0), add-one)

@@ -1,5 +1,5 @@
 -- The text of lists: each is a comment, and then a case to a line, small hexadecimal numbers parted by blanks. Assumes nothing.
-use Rattle.std.specs.Prelude.{◌≡◌, ℕ, suc, ◌+◌, ◌*◌, ◌/◌, ◌%◌, ◌^◌, ◌≤◌, min, max, Bool, true, false, cond, List, [], ◌∷◌, ltb, eqb, length, take, drop}
+use Rattle.std.specs.Prelude.{◌≡◌, ℕ, suc, ◌+◌, ◌*◌, ◌/◌, ◌%◌, ◌^◌, ◌≤◌, min, max, cond, List, [], ◌∷◌, ltb, eqb, length, take, drop}
 use Prim.Native.Char.{code}
 use Rattle.replay.specs.declared.text.Number.{Number}
 use Rattle.replay.specs.declared.text.Case.{Case}
@@ -43,12 +43,6 @@ case_at text at =
 unfoldable pub line_end : List ℕ → ℕ
 line_end [] = 0
 line_end (b ∷ rest) = cond (eqb b (code "\n")) 1 (suc (line_end rest))
-
--- whether a text starts with bytes, which come first
-unfoldable pub starts_with : List ℕ → List ℕ → Bool
-starts_with [] text = true
-starts_with (b ∷ start) [] = false
-starts_with (b ∷ start) (c ∷ text) = cond (eqb c b) (starts_with start text) false
 
 -- `text[..n]` is in bounds and has n bytes
 abbrev pub IsPrefixLen : ℕ → List ℕ → Type 0

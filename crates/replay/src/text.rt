@@ -1,6 +1,7 @@
 // The text of lists: each is a comment, and then a case to a line, small hexadecimal numbers parted by blanks.
-ghost use Rattle.std.specs.Prelude.{◌≡◌, ◌+◌, ◌≤◌, min, length};
-ghost use Rattle.replay.specs.Text.{digit_value, number_at, IsPrefixLen, after_byte, case_at, line_end, starts_with};
+ghost use Rattle.std.specs.Prelude.{◌≡◌, ◌+◌, ◌-◌, ◌≤◌, min, length};
+ghost use Rattle.std.specs.Iterator.{at_most};
+ghost use Rattle.replay.specs.Text.{digit_value, number_at, IsPrefixLen, after_byte, case_at, line_end};
 
 // A number, and the place after it and its blank.
 #[derive(Drop)]
@@ -16,7 +17,8 @@ pub struct Case {
     pub next: usize,
 }
 
-// The value of a digit. Letters, and no decimal digits, have bit 6; the low four bits of `a` are 1.
+// The value of a digit. Letters, and no decimal digits, have bit 6; the low four bits of `a` are 1. `char::to_digit` says that other bytes have no value, and this
+// list's reading gives each byte one.
 fn digit_value(b: u8) -> u64
     ensures { result ≡ digit_value b }
 {
@@ -29,26 +31,18 @@ fn number_at(text: &[u8], at: usize) -> Number
     ensures at_le_next { at ≤ result.next }
 {
     let mut value: u64 = 0;
-    let mut i = at;
-    while i < text.len() {
+    for i in at..text.len() {
+        if text[i] == b' ' {
+            return Number { value, next: i + 1 };
+        }
         if text[i] < b'0' {
-            if text[i] == b' ' {
-                return Number {
-                    value: value,
-                    next: i + 1,
-                };
-            }
-            return Number {
-                value: value,
-                next: i,
-            };
+            return Number { value, next: i };
         }
         value = value % 0x1000_0000_0000_0000 * 16 + digit_value(text[i]);
-        i += 1;
     }
     Number {
-        value: value,
-        next: i,
+        value,
+        next: at.max(text.len()),
     }
 }
 
@@ -86,29 +80,49 @@ pub fn line_end(text: &[u8]) -> usize
     ensures prefix_len { IsPrefixLen result text.now }
     ensures lower_bound { min 1 (length text.now) ≤ result }
 {
-    let mut i = 0;
-    while i < text.len() {
-        if text[i] == b'\n' {
-            return i + 1;
-        }
-        i += 1;
-    }
-    i
+    text.iter()
+        .position(|b| *b == b'\n')
+        .map_or(text.len(), |i| i + 1)
 }
 
-// Whether a text starts with these bytes.
-pub fn starts_with(text: &[u8], start: &[u8]) -> bool
-    ensures { result ≡ starts_with start.now text.now }
-{
-    let mut i = 0;
-    while i < start.len() {
-        if text.len() <= i {
-            return false;
-        }
-        if text[i] != start[i] {
-            return false;
-        }
-        i += 1;
+// A line of a text.
+#[derive(Drop)]
+pub enum Line<'a> {
+    Comment(&'a [u8]),
+    Case([u64; 8]),
+}
+
+// The lines of a text from a place on.
+#[derive(Drop)]
+pub struct Lines<'a> {
+    text: &'a [u8],
+    at: usize,
+}
+
+impl<'a> Lines<'a> {
+    pub fn new(text: &'a [u8]) -> Self
+        ensures whole { result.text.now ≡ text.now }
+        ensures start { result.at ≡ 0 }
+    {
+        Lines { text, at: 0 }
     }
-    true
+}
+
+impl<'a> Iterator for Lines<'a> {
+    type Item = Line<'a>;
+
+    ghost remaining = { λ s. at_most (length s.text.now - s.at) };
+
+    fn next(&mut self) -> Option<Line<'a>> {
+        let rest = self.text.get(self.at..)?;
+        if *rest.first()? == b'#' {
+            let comment = &rest[..line_end(rest)];
+            self.at += comment.len();
+            Some(Line::Comment(comment))
+        } else {
+            let case = case_at(self.text, self.at);
+            self.at = case.next;
+            Some(Line::Case(case.numbers))
+        }
+    }
 }

@@ -6,36 +6,47 @@ mod inject_event;
 mod setup;
 
 use blocks::report::Layout;
-use record::{Record, words};
+use definitions::Refusal;
+use record::Record;
+use record::words::Stored;
+use replay::{UnknownList, answered, print_answer};
 use std::io;
+use std::str::FromStr;
 use structs::FRAME_SIZE;
 use vcpu_session::Phase;
 
-// The lists, by the oracle's names.
-#[derive(Clone, Copy)]
+// The lists, by the oracle's names. Those of changes hold what their cases go on with.
+#[derive(Drop)]
 enum List {
-    Unknown,
     InjectEvent,
-    Setup,
+    Setup([u64; 44]),
     ExitInfo,
-    ExitReport,
+    ExitReport(Reports),
 }
 
-// The list whose comment the text starts with.
-fn list_of(text: &[u8]) -> List {
-    if replay::starts_with(text, b"# inject_event,") {
-        return List::InjectEvent;
+impl FromStr for List {
+    type Err = UnknownList;
+
+    fn from_str(name: &str) -> Result<Self, UnknownList> {
+        match name {
+            "inject_event" => Ok(List::InjectEvent),
+            "setup" => Ok(List::Setup([0; 44])),
+            "exit_info" => Ok(List::ExitInfo),
+            "exit_report" => Ok(List::ExitReport(Reports::new())),
+            _ => Err(UnknownList),
+        }
     }
-    if replay::starts_with(text, b"# setup,") {
-        return List::Setup;
+}
+
+impl replay::List for List {
+    fn answer(&mut self, rt: &impl Print, numbers: [u64; 8]) -> io::Result<()> {
+        match self {
+            List::InjectEvent => inject_event::inject_event(rt, numbers),
+            List::Setup(arguments) => answer_setup(rt, arguments, numbers),
+            List::ExitInfo => exit_info(rt, numbers),
+            List::ExitReport(reports) => reports.answer(rt, numbers),
+        }
     }
-    if replay::starts_with(text, b"# exit_info,") {
-        return List::ExitInfo;
-    }
-    if replay::starts_with(text, b"# exit_report,") {
-        return List::ExitReport;
-    }
-    List::Unknown
 }
 
 // The record of a new session.
@@ -50,31 +61,23 @@ fn new_record() -> [u8; Record::LENGTH] {
 
 // ---- A block of numbers, each at its offset, least significant byte first.
 
-fn put_byte(b: &mut [u8], at: usize, value: u8) {
-    if at < b.len() {
-        b[at] = value;
+// Stores the numbers from place 1 on in a block of zeros: each has an offset, and goes up to the next one.
+fn put_all(block: &mut [u8], offsets: &[usize], numbers: &[u64]) {
+    for (bounds, number) in offsets.windows(2).zip(numbers.iter().skip(1)) {
+        if let [from, to] = bounds
+            && let Some(field) = block.get_mut(*from..*to)
+        {
+            for (byte, low) in field.iter_mut().zip(number.to_le_bytes()) {
+                *byte = low;
+            }
+        }
     }
 }
 
-// Stores the low bytes of a number at the places from `from` to `to`.
-fn put(b: &mut [u8], from: usize, to: usize, value: u64) {
-    let mut rest = value;
-    for i in from..to {
-        put_byte(b, i, (rest % 0x100) as u8);
-        rest /= 0x100;
-    }
-}
-
-// The number at a place, or 0 past the last.
-fn number_at(numbers: [u64; 46], place: usize) -> u64 {
-    if place < 46 { numbers[place] } else { 0 }
-}
-
-// Stores the numbers from place 1 on: each has an offset, and goes up to the next one.
-fn put_all(b: &mut [u8], offsets: &[usize], numbers: [u64; 46]) {
-    for i in 1..offsets.len() {
-        put(b, offsets[i - 1], offsets[i], number_at(numbers, i));
-    }
+// The changes of a case: pairs of a place and a value. Unused places are 0.
+fn changes(numbers: [u64; 8]) -> [(u64, u64); 4] {
+    let [a, b, c, d, e, f, g, h] = numbers;
+    [(a, b), (c, d), (e, f), (g, h)]
 }
 
 // ---- A field of a record by its encoding.
@@ -88,21 +91,14 @@ fn read(bytes: &[u8; Record::LENGTH], encoding: u64) -> u64 {
 
 // ---- Setup.
 
-// Changes one number: place 43 is the byte that fills the frames, and a case's unused places are 0.
-fn change_argument(numbers: &mut [u64; 46], place: u64, value: u64) {
-    if place < 44 {
-        let i = place as usize;
-        numbers[i] = value;
+// A case changes arguments: place 43 is the byte that fills the frames.
+fn answer_setup(rt: &impl Print, arguments: &mut [u64; 44], numbers: [u64; 8]) -> io::Result<()> {
+    for (place, value) in changes(numbers) {
+        if let Some(argument) = arguments.get_mut(place as usize) {
+            *argument = value;
+        }
     }
-}
-
-// A case is four pairs of a place and a value.
-fn answer_setup(rt: &impl Print, numbers: &mut [u64; 46], n: [u64; 8]) -> io::Result<()> {
-    change_argument(numbers, n[0], n[1]);
-    change_argument(numbers, n[2], n[3]);
-    change_argument(numbers, n[4], n[5]);
-    change_argument(numbers, n[6], n[7]);
-    setup::answer(rt, *numbers)
+    setup::answer(rt, arguments)
 }
 
 // ---- Exit reports: each case changes numbers of the report, words kept from setup and fields of the session, and the running session takes the report. The eight
@@ -149,122 +145,85 @@ const REPORT_OFFSETS: [usize; 37] = [
     Layout::LENGTH,
 ];
 
-// The words kept from setup stand at places 37 to 45, in the order of the record: five pairs, allowed-1 in the high half, and four words of fixed bits.
-fn put_kept(bytes: &mut [u8; Record::LENGTH], n: [u64; 46]) {
-    for i in 0..9 {
-        words::put8(bytes, Record::PAIRS + 8 * i, n[i + 37]);
+// What a case of the list exit_report goes on with: the record, and the numbers of a report and of the words kept from setup.
+#[derive(Drop)]
+struct Reports {
+    bytes: [u8; Record::LENGTH],
+    numbers: [u64; 46],
+}
+
+impl Reports {
+    fn new() -> Self {
+        Reports {
+            bytes: new_record(),
+            numbers: [0; 46],
+        }
     }
-}
 
-// One change: of a number by its place, or of a field by its encoding. A case's unused places are 0.
-fn change(bytes: &mut [u8; Record::LENGTH], numbers: &mut [u64; 46], place: u64, value: u64) {
-    if place < 46 {
-        let i = place as usize;
-        numbers[i] = value;
-    } else {
-        x86_vcpu::session::vcpu_write_field(bytes, place, value);
+    // One change: of a number by its place, or of a field by its encoding.
+    fn change(&mut self, place: u64, value: u64) {
+        match self.numbers.get_mut(place as usize) {
+            Some(number) => *number = value,
+            None => {
+                x86_vcpu::session::vcpu_write_field(&mut self.bytes, place, value);
+            }
+        }
     }
-}
 
-// Takes the report of these numbers, and prints the answer.
-fn take_report(rt: &impl Print, bytes: &mut [u8; Record::LENGTH], n: [u64; 46]) -> io::Result<()> {
-    put_kept(bytes, n);
-    words::put1(bytes, Record::PHASE, Phase::RUNNING);
-    let mut block = [0u8; Layout::LENGTH];
-    put_all(&mut block, &REPORT_OFFSETS, n);
-    let mut w = [0u64; 8];
-    let refusal = x86_vcpu::report::vcpu_exit_report(bytes, &block, &mut w);
-    let digest = replay::digest_of(bytes);
-    replay::print_answer(
-        rt,
-        refusal,
-        &[w[0], w[1], w[2], w[3], w[4], w[5], w[6], w[7], digest],
-    )
-}
+    // The words kept from setup stand at places 37 to 45, in the order of the record: five pairs, allowed-1 in the high half, and four words of fixed bits.
+    fn put_kept(&mut self) {
+        let numbers = self.numbers;
+        for (i, kept) in numbers[37..].iter().enumerate() {
+            u64::put(&mut self.bytes, Record::PAIRS + 8 * i, *kept);
+        }
+    }
 
-// A case is four pairs of a place and a value.
-fn answer_exit_report(
-    rt: &impl Print,
-    bytes: &mut [u8; Record::LENGTH],
-    numbers: &mut [u64; 46],
-    n: [u64; 8],
-) -> io::Result<()> {
-    change(bytes, numbers, n[0], n[1]);
-    change(bytes, numbers, n[2], n[3]);
-    change(bytes, numbers, n[4], n[5]);
-    change(bytes, numbers, n[6], n[7]);
-    take_report(rt, bytes, *numbers)
+    // Takes the report of the numbers, and prints the answer.
+    fn take(&mut self, rt: &impl Print) -> io::Result<()> {
+        self.put_kept();
+        u8::put(&mut self.bytes, Record::PHASE, Phase::RUNNING);
+        let mut block = [0u8; Layout::LENGTH];
+        put_all(&mut block, &REPORT_OFFSETS, &self.numbers);
+        let mut w = [0u64; 8];
+        let refusal = x86_vcpu::report::vcpu_exit_report(&mut self.bytes, &block, &mut w);
+        let [a, b, c, d, e, f, g, h] = w;
+        let digest = replay::digest_of(&self.bytes);
+        print_answer(rt, answered(refusal, [a, b, c, d, e, f, g, h, digest]))
+    }
+
+    fn answer(&mut self, rt: &impl Print, numbers: [u64; 8]) -> io::Result<()> {
+        for (place, value) in changes(numbers) {
+            self.change(place, value);
+        }
+        self.take(rt)
+    }
 }
 
 // The refusal of a report of this reason, to a new session that runs.
 fn reason_refusal(reason: u32) -> u32 {
     let mut bytes = new_record();
-    words::put1(&mut bytes, Record::PHASE, Phase::RUNNING);
+    u8::put(&mut bytes, Record::PHASE, Phase::RUNNING);
     let mut block = [0u8; Layout::LENGTH];
-    words::put4(&mut block, Layout::REASON, reason);
+    u32::put(&mut block, Layout::REASON, reason);
     let mut w = [0u64; 8];
     x86_vcpu::report::vcpu_exit_report(&mut bytes, &block, &mut w)
 }
 
-// The parts of a full reason, or 14 where a report of the reason is refused by it. The list has the Rust's decoder, which takes bit 31 with any reason, so
+// The parts of a full reason, or the refusal where a report of the reason is refused by it. The list has the Rust's decoder, which takes bit 31 with any reason, so
 // the report is asked without bit 31. The Rust also has names for reasons 65 to 69, which document 01 refuses by 14: the list has no case of them.
-fn exit_info(rt: &impl Print, n: [u64; 8]) -> io::Result<()> {
-    let full_reason = bits::low(n[0]);
+fn exit_info(rt: &impl Print, numbers: [u64; 8]) -> io::Result<()> {
+    let [full_reason, ..] = numbers;
+    let full_reason = bits::low(full_reason);
     let info = vmcs::exit_info::exit_info(full_reason);
     let refusal = reason_refusal(full_reason % 0x8000_0000);
-    if refusal == 14 {
-        replay::print_refused(rt, refusal)
+    let parts = if refusal == u32::from(Refusal::Reason) {
+        Err(refusal)
     } else {
-        replay::print_numbers(
-            rt,
-            &[u64::from(info.entry_failure), u64::from(info.exit_reason)],
-        )
-    }
-}
-
-// ---- Every list.
-
-// Prints the answer to one case. The record and the numbers are what the lists go on with from case to case.
-fn answer(
-    rt: &impl Print,
-    list: List,
-    n: [u64; 8],
-    bytes: &mut [u8; Record::LENGTH],
-    numbers: &mut [u64; 46],
-) -> io::Result<()> {
-    match list {
-        List::Unknown => println!(rt; "no such list"),
-        List::InjectEvent => inject_event::inject_event(rt, n),
-        List::Setup => answer_setup(rt, numbers, n),
-        List::ExitInfo => exit_info(rt, n),
-        List::ExitReport => answer_exit_report(rt, bytes, numbers, n),
-    }
-}
-
-// A comment starts a list, with everything anew.
-fn answer_all(rt: &impl Print, text: &[u8]) -> io::Result<()> {
-    let mut list = List::Unknown;
-    let mut bytes = new_record();
-    let mut numbers = [0u64; 46];
-    let mut at = 0;
-    while at < text.len() {
-        if text[at] == b'#' {
-            let rest = &text[at..];
-            list = list_of(rest);
-            bytes = new_record();
-            numbers = [0; 46];
-            at += replay::print_comment(rt, rest)?;
-        } else {
-            let case = replay::case_at(text, at);
-            answer(rt, list, case.numbers, &mut bytes, &mut numbers)?;
-            at = case.next;
-        }
-    }
-    Ok(())
+        Ok([u64::from(info.entry_failure), u64::from(info.exit_reason)])
+    };
+    print_answer(rt, parts)
 }
 
 fn main(rt: HostRuntime) -> io::Result<()> {
-    let mut input = replay::buffer();
-    let read = streams::fill(&mut rt.reader(), &mut input)?;
-    answer_all(&rt, &input[..read])
+    replay::answer_input::<List>(&rt)
 }

@@ -1,6 +1,7 @@
 // Setup: each case changes numbers of setup's arguments and sets up a new session. The five control words, a digest of the record and the sum of the frames'
 // digests are printed.
 use blocks::setup::Layout;
+use replay::{answered, print_answer};
 use std::io;
 use structs::FRAME_SIZE;
 
@@ -14,11 +15,7 @@ const VMENTRY_CONTROLS: u64 = 0x4012;
 
 const SECONDARY_PROCBASED_EXEC_CONTROLS: u64 = 0x401E;
 
-fn byte(x: u64) -> u8 {
-    (x % 0x100) as u8
-}
-
-// Where the numbers of the block start, and where it ends. They stand at places 1 to 42 of a case's numbers.
+// Where the numbers of the block start, and where it ends. They stand at places 1 to 42 of the arguments.
 const OFFSETS: [usize; 43] = [
     Layout::HOST_PAT,
     Layout::HOST_EFER,
@@ -66,33 +63,27 @@ const OFFSETS: [usize; 43] = [
 ];
 
 fn sum_of_digests(a: &[u8; FRAME_SIZE], b: &[u8; FRAME_SIZE], msr: &[u8; FRAME_SIZE]) -> u64 {
-    let first = replay::digest_of(a) % 0x1_0000_0000;
-    let second = replay::digest_of(b) % 0x1_0000_0000;
-    let third = replay::digest_of(msr) % 0x1_0000_0000;
-    first + second + third
+    replay::digest_of(a) + replay::digest_of(b) + replay::digest_of(msr)
 }
 
 // Sets a new session up, with the frames full of the byte at place 43, and prints the answer.
-pub fn answer(rt: &impl Print, n: [u64; 46]) -> io::Result<()> {
-    let fill = byte(n[43]);
+pub fn answer(rt: &impl Print, arguments: &[u64; 44]) -> io::Result<()> {
+    let fill = replay::low_byte(arguments[43]);
     let mut bytes = crate::new_record();
     let mut a = [fill; FRAME_SIZE];
     let mut b = [fill; FRAME_SIZE];
     let mut msr = [fill; FRAME_SIZE];
     let mut block = [0u8; Layout::LENGTH];
-    crate::put_all(&mut block, &OFFSETS, n);
+    crate::put_all(&mut block, &OFFSETS, arguments);
     let refusal = x86_vcpu::setup::vcpu_setup(&mut bytes, &block, &mut a, &mut b, &mut msr);
-    replay::print_answer(
-        rt,
-        refusal,
-        &[
-            crate::read(&bytes, PINBASED_EXEC_CONTROLS),
-            crate::read(&bytes, PRIMARY_PROCBASED_EXEC_CONTROLS),
-            crate::read(&bytes, SECONDARY_PROCBASED_EXEC_CONTROLS),
-            crate::read(&bytes, VMEXIT_CONTROLS),
-            crate::read(&bytes, VMENTRY_CONTROLS),
-            replay::digest_of(&bytes),
-            sum_of_digests(&a, &b, &msr),
-        ],
-    )
+    let results = [
+        crate::read(&bytes, PINBASED_EXEC_CONTROLS),
+        crate::read(&bytes, PRIMARY_PROCBASED_EXEC_CONTROLS),
+        crate::read(&bytes, SECONDARY_PROCBASED_EXEC_CONTROLS),
+        crate::read(&bytes, VMEXIT_CONTROLS),
+        crate::read(&bytes, VMENTRY_CONTROLS),
+        replay::digest_of(&bytes),
+        sum_of_digests(&a, &b, &msr),
+    ];
+    print_answer(rt, answered(refusal, results))
 }

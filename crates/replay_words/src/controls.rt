@@ -2,31 +2,32 @@
 use std::io;
 use vmcs::controls::{CrWords, Pair};
 
-fn print_words(rt: &impl Print, words: CrWords) -> io::Result<()> {
-    replay::print_numbers(rt, &[words.value, words.shadow, words.mask])
-}
-
-pub fn set_cr(rt: &impl Print, n: [u64; 8]) -> io::Result<()> {
-    if n[0] == 0 {
-        print_words(rt, vmcs::controls::cr0_words(n[2], n[3], n[1]))
-    } else {
-        print_words(rt, vmcs::controls::cr4_words(n[2], n[3], n[1]))
-    }
-}
-
-pub fn update_efer(rt: &impl Print, n: [u64; 8]) -> io::Result<()> {
-    let pair = Pair {
-        allowed0: bits::low(n[2]),
-        allowed1: bits::low(n[3]),
+// The first number is the register's: the oracle's list names it by a number.
+pub fn set_cr(rt: &impl Print, numbers: [u64; 8]) -> io::Result<()> {
+    let [register, value, fixed0, fixed1, ..] = numbers;
+    let CrWords {
+        value,
+        shadow,
+        mask,
+    } = match register {
+        0 => vmcs::controls::cr0_words(fixed0, fixed1, value),
+        _ => vmcs::controls::cr4_words(fixed0, fixed1, value),
     };
-    let update = vmcs::controls::update_efer(pair, n[0], bits::low(n[1]));
-    if update.refusal == 0 {
-        replay::print_numbers(rt, &[update.efer, u64::from(update.entry)])
-    } else {
-        replay::print_refused(rt, update.refusal)
-    }
+    replay::print_numbers(rt, &[value, shadow, mask])
 }
 
-pub fn ept_pointer(rt: &impl Print, n: [u64; 8]) -> io::Result<()> {
-    replay::print_numbers(rt, &[structs::ept_pointer(n[0])])
+pub fn update_efer(rt: &impl Print, numbers: [u64; 8]) -> io::Result<()> {
+    let [efer, entry, allowed0, allowed1, ..] = numbers;
+    let pair = Pair {
+        allowed0: bits::low(allowed0),
+        allowed1: bits::low(allowed1),
+    };
+    let updated = vmcs::controls::update_efer(pair, efer, bits::low(entry));
+    let words = updated.map(|words| [words.efer, u64::from(words.entry)]);
+    replay::print_answer(rt, words.map_err(u32::from))
+}
+
+pub fn ept_pointer(rt: &impl Print, numbers: [u64; 8]) -> io::Result<()> {
+    let [root, ..] = numbers;
+    replay::print_numbers(rt, &[structs::ept_pointer(root)])
 }

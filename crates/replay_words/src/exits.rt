@@ -35,7 +35,7 @@ pub fn interrupt_exit_info(rt: &impl Print, n: [u64; 8]) -> io::Result<()> {
         rt,
         &[
             u64::from(info.vector),
-            u64::from(definitions::type_number(info.int_type)),
+            u64::from(u32::from(info.int_type)),
             u64::from(info.err_code),
             u64::from(info.valid),
         ],

@@ -6,14 +6,16 @@ mod controls;
 mod events;
 mod exits;
 
-use regs::{GeneralRegisters, RegAnswer};
+use definitions::Refusal;
+use regs::GeneralRegisters;
+use replay::UnknownList;
 use std::io;
-use vmcs::{FieldAnswer, Vmcs};
+use std::str::FromStr;
+use vmcs::Vmcs;
 
-// The lists, by the oracle's names.
-#[derive(Clone, Copy)]
+// The lists, by the oracle's names. Registers and fields hold what their cases go on with.
+#[derive(Drop)]
 enum List {
-    Unknown,
     SetCr,
     UpdateEfer,
     EptPointer,
@@ -21,82 +23,8 @@ enum List {
     IoExitInfo,
     CrAccessInfo,
     InterruptExitInfo,
-    Registers,
-    Fields,
-}
-
-// The list whose comment the text starts with.
-fn list_of(text: &[u8]) -> List {
-    if replay::starts_with(text, b"# set_cr,") {
-        return List::SetCr;
-    }
-    if replay::starts_with(text, b"# update_efer,") {
-        return List::UpdateEfer;
-    }
-    if replay::starts_with(text, b"# ept_pointer,") {
-        return List::EptPointer;
-    }
-    if replay::starts_with(text, b"# vectors,") {
-        return List::Vectors;
-    }
-    if replay::starts_with(text, b"# io_exit_info,") {
-        return List::IoExitInfo;
-    }
-    if replay::starts_with(text, b"# cr_access_info,") {
-        return List::CrAccessInfo;
-    }
-    if replay::starts_with(text, b"# interrupt_exit_info,") {
-        return List::InterruptExitInfo;
-    }
-    if replay::starts_with(text, b"# registers,") {
-        return List::Registers;
-    }
-    if replay::starts_with(text, b"# fields,") {
-        return List::Fields;
-    }
-    List::Unknown
-}
-
-// ---- Registers and fields by value: each case goes on with what the last left.
-
-fn print_register(rt: &impl Print, g: GeneralRegisters, index: u64) -> io::Result<()> {
-    match regs::reg_of_index(g, index) {
-        RegAnswer::Value(value) => replay::print_numbers(rt, &[value]),
-        RegAnswer::Refused(refusal) => replay::print_refused(rt, refusal),
-    }
-}
-
-fn answer_registers(rt: &impl Print, g: &mut GeneralRegisters, n: [u64; 8]) -> io::Result<()> {
-    if n[0] == 0 {
-        return print_register(rt, *g, n[1]);
-    }
-    let written = regs::with_reg_of_index(*g, n[1], n[2]);
-    *g = written.regs;
-    if written.refusal == 0 {
-        print_register(rt, *g, n[1])
-    } else {
-        replay::print_refused(rt, written.refusal)
-    }
-}
-
-fn print_field(rt: &impl Print, fields: Vmcs, encoding: u64) -> io::Result<()> {
-    match vmcs::vmcs_read(fields, encoding) {
-        FieldAnswer::Value(value) => replay::print_numbers(rt, &[value]),
-        FieldAnswer::Refused(refusal) => replay::print_refused(rt, refusal),
-    }
-}
-
-fn answer_fields(rt: &impl Print, fields: &mut Vmcs, n: [u64; 8]) -> io::Result<()> {
-    if n[0] == 0 {
-        return print_field(rt, *fields, n[1]);
-    }
-    let written = vmcs::vmcs_write(*fields, n[1], n[2]);
-    *fields = written.vmcs;
-    if written.refusal == 0 {
-        print_field(rt, *fields, n[1])
-    } else {
-        replay::print_refused(rt, written.refusal)
-    }
+    Registers(GeneralRegisters),
+    Fields(Vmcs),
 }
 
 fn no_fields() -> Vmcs {
@@ -108,62 +36,81 @@ fn no_fields() -> Vmcs {
     }
 }
 
-// ---- Every list.
+impl FromStr for List {
+    type Err = UnknownList;
 
-// What the lists registers and fields go on with from case to case.
-#[derive(Drop)]
-struct State {
-    registers: GeneralRegisters,
-    fields: Vmcs,
-}
-
-impl State {
-    fn new() -> Self {
-        State {
-            registers: regs::of_array([0; 16]),
-            fields: no_fields(),
+    fn from_str(name: &str) -> Result<Self, UnknownList> {
+        match name {
+            "set_cr" => Ok(List::SetCr),
+            "update_efer" => Ok(List::UpdateEfer),
+            "ept_pointer" => Ok(List::EptPointer),
+            "vectors" => Ok(List::Vectors),
+            "io_exit_info" => Ok(List::IoExitInfo),
+            "cr_access_info" => Ok(List::CrAccessInfo),
+            "interrupt_exit_info" => Ok(List::InterruptExitInfo),
+            "registers" => Ok(List::Registers(GeneralRegisters::from([0; 16]))),
+            "fields" => Ok(List::Fields(no_fields())),
+            _ => Err(UnknownList),
         }
     }
 }
 
-// Prints the answer to one case.
-fn answer(rt: &impl Print, list: List, state: &mut State, n: [u64; 8]) -> io::Result<()> {
-    match list {
-        List::Unknown => println!(rt; "no such list"),
-        List::SetCr => controls::set_cr(rt, n),
-        List::UpdateEfer => controls::update_efer(rt, n),
-        List::EptPointer => controls::ept_pointer(rt, n),
-        List::Vectors => events::vectors(rt, n),
-        List::IoExitInfo => exits::io_exit_info(rt, n),
-        List::CrAccessInfo => exits::cr_access_info(rt, n),
-        List::InterruptExitInfo => exits::interrupt_exit_info(rt, n),
-        List::Registers => answer_registers(rt, &mut state.registers, n),
-        List::Fields => answer_fields(rt, &mut state.fields, n),
+impl replay::List for List {
+    fn answer(&mut self, rt: &impl Print, numbers: [u64; 8]) -> io::Result<()> {
+        match self {
+            List::SetCr => controls::set_cr(rt, numbers),
+            List::UpdateEfer => controls::update_efer(rt, numbers),
+            List::EptPointer => controls::ept_pointer(rt, numbers),
+            List::Vectors => events::vectors(rt, numbers),
+            List::IoExitInfo => exits::io_exit_info(rt, numbers),
+            List::CrAccessInfo => exits::cr_access_info(rt, numbers),
+            List::InterruptExitInfo => exits::interrupt_exit_info(rt, numbers),
+            List::Registers(registers) => answer_registers(rt, registers, numbers),
+            List::Fields(fields) => answer_fields(rt, fields, numbers),
+        }
     }
 }
 
-// A comment starts a list, with the state anew.
-fn answer_all(rt: &impl Print, text: &[u8]) -> io::Result<()> {
-    let mut list = List::Unknown;
-    let mut state = State::new();
-    let mut at = 0;
-    while at < text.len() {
-        if text[at] == b'#' {
-            let rest = &text[at..];
-            list = list_of(rest);
-            state = State::new();
-            at += replay::print_comment(rt, rest)?;
-        } else {
-            let case = replay::case_at(text, at);
-            answer(rt, list, &mut state, case.numbers)?;
-            at = case.next;
-        }
+// ---- Registers and fields by value: each case goes on with what the last left.
+
+// The value at a place, after a write of it where the first number is not 0.
+fn access<
+    T: Copy,
+    Write: Fn(T, u64, u64) -> Result<T, Refusal>,
+    Read: Fn(T, u64) -> Result<u64, Refusal>,
+>(words: &mut T, numbers: [u64; 8], write: Write, read: Read) -> Result<u64, Refusal>
+    requires writes { Write.IsAlwaysCallable write }
+    requires reads { Read.IsAlwaysCallable read }
+{
+    let [is_write, place, value, ..] = numbers;
+    if is_write != 0 {
+        *words = write(*words, place, value)?;
     }
-    Ok(())
+    read(*words, place)
+}
+
+fn print_answer(rt: &impl Print, answer: Result<u64, Refusal>) -> io::Result<()> {
+    replay::print_answer(rt, answer.map(|value| [value]).map_err(u32::from))
+}
+
+fn answer_registers(
+    rt: &impl Print,
+    g: &mut GeneralRegisters,
+    numbers: [u64; 8],
+) -> io::Result<()> {
+    print_answer(
+        rt,
+        access(g, numbers, regs::with_reg_of_index, regs::reg_of_index),
+    )
+}
+
+fn answer_fields(rt: &impl Print, fields: &mut Vmcs, numbers: [u64; 8]) -> io::Result<()> {
+    print_answer(
+        rt,
+        access(fields, numbers, vmcs::vmcs_write, vmcs::vmcs_read),
+    )
 }
 
 fn main(rt: HostRuntime) -> io::Result<()> {
-    let mut input = replay::buffer();
-    let read = streams::fill(&mut rt.reader(), &mut input)?;
-    answer_all(&rt, &input[..read])
+    replay::answer_input::<List>(&rt)
 }

@@ -5,6 +5,7 @@
 #![tactic(auto)]
 
 ghost use Rattle.std.specs.Prelude.{◌≡◌, true, false, length};
+ghost use Rattle.definitions.specs.Refusals.{refusal_of};
 ghost use Rattle.vmcs.specs.Writes.{applied};
 ghost use Rattle.vcpu_session.specs.Session.{with_vmcs, with_xcr0};
 ghost use Rattle.vcpu_exit.specs.Reading.{past_end};
@@ -13,16 +14,18 @@ ghost use Rattle.vcpu_report.specs.Handlers.{stored, failure_stored, timer_set, 
 ghost use Rattle.vcpu_report.specs.ExitReport.{xcr0_after, failed_entry, after_exit, accepted};
 ghost use Rattle.record.specs.Record.{LENGTH};
 ghost use Rattle.record.specs.Codec.{session_of, accepted_of};
-ghost use Rattle.record_edits.specs.Holds.{Holds};
+ghost use Rattle.record_edits.specs.Edited.{session, Edited};
 ghost use Rattle.report_edits.specs.Stored.{guest_writes, exit_writes};
 
 use definitions::exit_reason::VmxExitReason;
 use definitions::{InterruptionBits, Refusal};
 use record::Record;
+use record::words::Stored;
+use record_edits::SessionRecord;
 use vcpu_answers::AxVCpuExitReason;
 use vcpu_exit::Report;
 use vcpu_session::{Fixed, Phase};
-use vmcs::controls::Pair;
+use vmcs::controls::{EferWords, Pair};
 use vmcs::flags::Cr0Flags;
 use vmcs::names::{
     VmcsControl32, VmcsControlNW, VmcsGuest32, VmcsGuest64, VmcsGuestNW, VmcsReadOnly32,
@@ -36,7 +39,7 @@ fn entry_pair_at(b: &[u8]) -> Pair
     requires { length b.now ≡ LENGTH }
     ensures { result ≡ entry_pair (session_of b.now).capabilities }
 {
-    record::pair_at(b, Record::PAIRS + 32)
+    Pair::get(b, Record::PAIRS + 32)
 }
 
 // ---- refusals
@@ -55,22 +58,23 @@ fn owned_bits_differ(b: &[u8], r: Report) -> bool
 }
 
 // The refusal of a report, or 0: 1, not running; 14; 15; then those of the exit. An accepted record's session is never refused by 2.
+// The record is bytes and no `SessionRecord`, which is lent for changes: a trial only reads it.
 #[tactic(auto, unfolding(vcpu_exit::specs::Refusal::report_refusal))]
-pub fn report_refusal(b: &[u8], r: Report) -> u32
+pub fn report_refusal(b: &[u8], r: Report) -> Result<(), Refusal>
     requires { accepted_of b.now ≡ true }
-    ensures { result ≡ report_refusal (session_of b.now) r }
+    ensures { refusal_of result ≡ report_refusal (session_of b.now) r }
 {
     if record::phase_at(b) != Phase::RUNNING {
-        return Refusal::PHASE;
+        return Err(Refusal::Phase);
     }
     if vcpu_exit::unknown_reason(r) {
-        return Refusal::REASON;
+        return Err(Refusal::Reason);
     }
     if vcpu_exit::is_failed(r) {
-        return 0;
+        return Ok(());
     }
     if owned_bits_differ(b, r) {
-        return Refusal::OWNED_BITS;
+        return Err(Refusal::OwnedBits);
     }
     let pair = entry_pair_at(b);
     let entry = record::w32_at(b, VmcsControl32::VMENTRY_CONTROLS);
@@ -81,58 +85,53 @@ pub fn report_refusal(b: &[u8], r: Report) -> u32
 // ---- storing the report
 
 // The guest's registers and control registers.
-fn store_guest(b: &mut [u8], r: Report)
-    requires { accepted_of b.old ≡ true }
-    ensures { Holds b.new (with_vmcs (session_of b.old) (applied (guest_writes (session_of b.old).vmcs r) (session_of b.old).vmcs)) }
+fn store_guest(b: &mut SessionRecord, r: Report)
+    ensures { Edited b.old b.new (λ s. with_vmcs s (applied (guest_writes s.vmcs r) s.vmcs)) }
 {
-    record_edits::put_natural(b, VmcsGuestNW::RIP, r.rip);
-    record_edits::put_natural(b, VmcsGuestNW::RSP, r.rsp);
-    record_edits::put_natural(b, VmcsGuestNW::RFLAGS, r.rflags);
-    record_edits::put_w32(b, VmcsGuest32::INTERRUPTIBILITY_STATE, r.interruptibility);
-    record_edits::put_natural(b, VmcsGuestNW::CR0, r.cr0);
-    record_edits::put_natural(b, VmcsGuestNW::CR3, r.cr3);
-    record_edits::put_natural(b, VmcsGuestNW::CR4, r.cr4);
-    record_edits::put_w64(b, VmcsGuest64::IA32_EFER, r.efer);
+    b.put_natural(VmcsGuestNW::RIP, r.rip);
+    b.put_natural(VmcsGuestNW::RSP, r.rsp);
+    b.put_natural(VmcsGuestNW::RFLAGS, r.rflags);
+    b.put_w32(VmcsGuest32::INTERRUPTIBILITY_STATE, r.interruptibility);
+    b.put_natural(VmcsGuestNW::CR0, r.cr0);
+    b.put_natural(VmcsGuestNW::CR3, r.cr3);
+    b.put_natural(VmcsGuestNW::CR4, r.cr4);
+    b.put_w64(VmcsGuest64::IA32_EFER, r.efer);
 }
 
 // A failed entry stores no more than these two.
 #[tactic(auto, unfolding(vcpu_report::specs::Handlers::failure_stored))]
-fn store_failure(b: &mut [u8], r: Report)
-    requires { accepted_of b.old ≡ true }
-    ensures { Holds b.new (with_vmcs (session_of b.old) (failure_stored (session_of b.old).vmcs r)) }
+fn store_failure(b: &mut SessionRecord, r: Report)
+    ensures { Edited b.old b.new (λ s. with_vmcs s (failure_stored s.vmcs r)) }
 {
-    record_edits::put_w32(b, VmcsReadOnly32::EXIT_REASON, r.reason);
-    record_edits::put_natural(b, VmcsReadOnlyNW::EXIT_QUALIFICATION, r.qualification);
+    b.put_w32(VmcsReadOnly32::EXIT_REASON, r.reason);
+    b.put_natural(VmcsReadOnlyNW::EXIT_QUALIFICATION, r.qualification);
 }
 
 // The guest's segments, and the exit words.
 #[tactic(auto, unfolding(vcpu_report::specs::Handlers::failure_stored))]
-fn store_exit(b: &mut [u8], r: Report)
-    requires { accepted_of b.old ≡ true }
-    ensures { Holds b.new (with_vmcs (session_of b.old) (applied (exit_writes (session_of b.old).vmcs r) (session_of b.old).vmcs)) }
+fn store_exit(b: &mut SessionRecord, r: Report)
+    ensures { Edited b.old b.new (λ s. with_vmcs s (applied (exit_writes s.vmcs r) s.vmcs)) }
 {
-    record_edits::put_natural(b, VmcsGuestNW::CS_BASE, r.csbase);
-    record_edits::put_w32(b, VmcsGuest32::CS_ACCESS_RIGHTS, r.csrights);
-    record_edits::put_w32(b, VmcsGuest32::SS_ACCESS_RIGHTS, r.ssrights);
+    b.put_natural(VmcsGuestNW::CS_BASE, r.csbase);
+    b.put_w32(VmcsGuest32::CS_ACCESS_RIGHTS, r.csrights);
+    b.put_w32(VmcsGuest32::SS_ACCESS_RIGHTS, r.ssrights);
     store_failure(b, r);
-    record_edits::put_w32(b, VmcsReadOnly32::VMEXIT_INSTRUCTION_LEN, r.length);
-    record_edits::put_w32(b, VmcsReadOnly32::VMEXIT_INTERRUPTION_INFO, r.interruption);
-    record_edits::put_w32(b, VmcsReadOnly32::VMEXIT_INTERRUPTION_ERR_CODE, r.code);
+    b.put_w32(VmcsReadOnly32::VMEXIT_INSTRUCTION_LEN, r.length);
+    b.put_w32(VmcsReadOnly32::VMEXIT_INTERRUPTION_INFO, r.interruption);
+    b.put_w32(VmcsReadOnly32::VMEXIT_INTERRUPTION_ERR_CODE, r.code);
 }
 
 const VALID: u32 = 1 << InterruptionBits::VALID;
 
 // The report's fields. The valid bit of the entry interruption field is cleared.
 #[tactic(auto, unfolding(vcpu_report::specs::Handlers::stored))]
-fn store_report(b: &mut [u8], r: Report)
-    requires { accepted_of b.old ≡ true }
-    ensures { Holds b.new (with_vmcs (session_of b.old) (stored (session_of b.old).vmcs r)) }
+fn store_report(b: &mut SessionRecord, r: Report)
+    ensures { Edited b.old b.new (λ s. with_vmcs s (stored s.vmcs r)) }
 {
-    let entry = record::w32_at(b, VmcsControl32::VMENTRY_INTERRUPTION_INFO_FIELD);
+    let entry = record::w32_at(b.bytes(), VmcsControl32::VMENTRY_INTERRUPTION_INFO_FIELD);
     store_guest(b, r);
     store_exit(b, r);
-    record_edits::put_w32(
-        b,
+    b.put_w32(
         VmcsControl32::VMENTRY_INTERRUPTION_INFO_FIELD,
         entry & !VALID,
     );
@@ -142,12 +141,10 @@ fn store_report(b: &mut [u8], r: Report)
 
 // The timer starts anew.
 #[tactic(auto, unfolding(vcpu_report::specs::Handlers::timer_set))]
-fn handle_vmx_preemption_timer(b: &mut [u8])
-    requires { accepted_of b.old ≡ true }
-    ensures { Holds b.new (with_vmcs (session_of b.old) (timer_set (session_of b.old).vmcs)) }
+fn handle_vmx_preemption_timer(b: &mut SessionRecord)
+    ensures { Edited b.old b.new (λ s. with_vmcs s (timer_set s.vmcs)) }
 {
-    record_edits::put_w32(
-        b,
+    b.put_w32(
         VmcsGuest32::VMX_PREEMPTION_TIMER_VALUE,
         vcpu_session::VMX_PREEMPTION_TIMER_SET_VALUE,
     );
@@ -155,96 +152,89 @@ fn handle_vmx_preemption_timer(b: &mut [u8])
 
 // `set_cr` of CR0.
 #[tactic(auto, unfolding(vcpu_report::specs::Handlers::cr0_set))]
-fn set_cr0(b: &mut [u8], fixed: Fixed, value: u64)
-    requires { accepted_of b.old ≡ true }
-    ensures { Holds b.new (with_vmcs (session_of b.old) (cr0_set (session_of b.old).vmcs fixed value)) }
+fn set_cr0(b: &mut SessionRecord, fixed: Fixed, value: u64)
+    ensures { Edited b.old b.new (λ s. with_vmcs s (cr0_set s.vmcs fixed value)) }
 {
     let words = vmcs::controls::cr0_words(fixed.fixed0, fixed.fixed1, value);
-    record_edits::put_natural(b, VmcsGuestNW::CR0, words.value);
-    record_edits::put_natural(b, VmcsControlNW::CR0_READ_SHADOW, words.shadow);
-    record_edits::put_natural(b, VmcsControlNW::CR0_GUEST_HOST_MASK, words.mask);
+    b.put_natural(VmcsGuestNW::CR0, words.value);
+    b.put_natural(VmcsControlNW::CR0_READ_SHADOW, words.shadow);
+    b.put_natural(VmcsControlNW::CR0_GUEST_HOST_MASK, words.mask);
 }
 
 // `set_cr` of CR4.
 #[tactic(auto, unfolding(vcpu_report::specs::Handlers::cr4_set))]
-fn set_cr4(b: &mut [u8], fixed: Fixed, value: u64)
-    requires { accepted_of b.old ≡ true }
-    ensures { Holds b.new (with_vmcs (session_of b.old) (cr4_set (session_of b.old).vmcs fixed value)) }
+fn set_cr4(b: &mut SessionRecord, fixed: Fixed, value: u64)
+    ensures { Edited b.old b.new (λ s. with_vmcs s (cr4_set s.vmcs fixed value)) }
 {
     let words = vmcs::controls::cr4_words(fixed.fixed0, fixed.fixed1, value);
-    record_edits::put_natural(b, VmcsGuestNW::CR4, words.value);
-    record_edits::put_natural(b, VmcsControlNW::CR4_READ_SHADOW, words.shadow);
-    record_edits::put_natural(b, VmcsControlNW::CR4_GUEST_HOST_MASK, words.mask);
+    b.put_natural(VmcsGuestNW::CR4, words.value);
+    b.put_natural(VmcsControlNW::CR4_READ_SHADOW, words.shadow);
+    b.put_natural(VmcsControlNW::CR4_GUEST_HOST_MASK, words.mask);
 }
 
 // EFER and the entry controls where paging is turned on.
 #[tactic(auto, unfolding(vcpu_report::specs::Handlers::efer_updated))]
-fn update_efer(b: &mut [u8], pair: Pair, efer: u64)
-    requires { accepted_of b.old ≡ true }
-    ensures { Holds b.new (with_vmcs (session_of b.old) (efer_updated (session_of b.old).vmcs pair efer)) }
+fn update_efer(b: &mut SessionRecord, pair: Pair, efer: u64)
+    ensures { Edited b.old b.new (λ s. with_vmcs s (efer_updated s.vmcs pair efer)) }
 {
-    let entry = record::w32_at(b, VmcsControl32::VMENTRY_CONTROLS);
-    let update = vmcs::controls::update_efer(pair, efer, entry);
-    record_edits::put_w64(b, VmcsGuest64::IA32_EFER, update.efer);
-    record_edits::put_w32(b, VmcsControl32::VMENTRY_CONTROLS, update.entry);
+    let entry = record::w32_at(b.bytes(), VmcsControl32::VMENTRY_CONTROLS);
+    let update = vmcs::controls::update_efer(pair, efer, entry).unwrap_or(EferWords {
+        efer,
+        entry,
+    });
+    b.put_w64(VmcsGuest64::IA32_EFER, update.efer);
+    b.put_w32(VmcsControl32::VMENTRY_CONTROLS, update.entry);
 }
 
 // A move to CR0 or CR4.
 #[tactic(auto, unfolding(vcpu_report::specs::Handlers::cr_handled))]
-fn handle_cr(b: &mut [u8], r: Report)
-    requires { accepted_of b.old ≡ true }
-    ensures { Holds b.new (with_vmcs (session_of b.old) (cr_handled (session_of b.old).vmcs (session_of b.old).capabilities r)) }
+fn handle_cr(b: &mut SessionRecord, r: Report)
+    ensures { Edited b.old b.new (λ s. with_vmcs s (cr_handled s.vmcs s.capabilities r)) }
 {
     let value = vcpu_exit::moved_value(r);
     if vcpu_exit::is_move_to(r, 4) {
-        let cr4 = record::fixed_at(b, Record::CR4);
+        let cr4 = Fixed::get(b.bytes(), Record::CR4);
         set_cr4(b, cr4, value);
         return;
     }
-    let cr0 = record::fixed_at(b, Record::CR0);
+    let cr0 = Fixed::get(b.bytes(), Record::CR0);
     set_cr0(b, cr0, value);
     if (value >> Cr0Flags::PAGING) % 2 == 1 {
-        let pair = entry_pair_at(b);
+        let pair = entry_pair_at(b.bytes());
         update_efer(b, pair, r.efer);
         return;
     }
 }
 
 #[tactic(auto, unfolding(vcpu_report::specs::Handlers::handled_as))]
-fn handle_as(b: &mut [u8], reason: u32, r: Report)
-    requires { accepted_of b.old ≡ true }
-    ensures { Holds b.new (with_vmcs (session_of b.old) (handled_as reason (session_of b.old).vmcs (session_of b.old).capabilities r)) }
+fn handle_as(b: &mut SessionRecord, reason: u32, r: Report)
+    ensures { Edited b.old b.new (λ s. with_vmcs s (handled_as reason s.vmcs s.capabilities r)) }
 {
-    if reason == VmxExitReason::INTERRUPT_WINDOW {
+    if reason == VmxExitReason::INTERRUPT_WINDOW as u32 {
         entry_edits::set_interrupt_window(b, false);
-        return;
-    }
-    if reason == VmxExitReason::PREEMPTION_TIMER {
+    } else if reason == VmxExitReason::PREEMPTION_TIMER as u32 {
         handle_vmx_preemption_timer(b);
-        return;
-    }
-    if reason == VmxExitReason::CR_ACCESS {
+    } else if reason == VmxExitReason::CR_ACCESS as u32 {
         handle_cr(b, r);
-        return;
     }
 }
 
 // RIP past the instruction.
 #[tactic(auto, unfolding(vcpu_exit::specs::Reading::past_end, vcpu_report::specs::Handlers::rip_advanced))]
-fn advance_rip(b: &mut [u8], r: Report)
-    requires { (accepted_of b.old ≡ true) × (past_end r ≡ false) }
-    ensures { Holds b.new (with_vmcs (session_of b.old) (rip_advanced (session_of b.old).vmcs r)) }
+fn advance_rip(b: &mut SessionRecord, r: Report)
+    requires { past_end r ≡ false }
+    ensures { Edited b.old b.new (λ s. with_vmcs s (rip_advanced s.vmcs r)) }
 {
     let rip = r.rip;
     let next = rip + vcpu_exit::advance_of(r);
-    record_edits::put_natural(b, VmcsGuestNW::RIP, next);
+    b.put_natural(VmcsGuestNW::RIP, next);
 }
 
 // The fields after an accepted exit.
 #[tactic(auto, unfolding(vcpu_report::specs::Handlers::vmcs_after))]
-fn vmcs_after(b: &mut [u8], r: Report)
-    requires { (accepted_of b.old ≡ true) × (past_end r ≡ false) }
-    ensures { Holds b.new (with_vmcs (session_of b.old) (vmcs_after (session_of b.old).vmcs (session_of b.old).capabilities r)) }
+fn vmcs_after(b: &mut SessionRecord, r: Report)
+    requires { past_end r ≡ false }
+    ensures { Edited b.old b.new (λ s. with_vmcs s (vmcs_after s.vmcs s.capabilities r)) }
 {
     store_report(b, r);
     handle_as(b, vcpu_exit::reason_of(r), r);
@@ -253,14 +243,12 @@ fn vmcs_after(b: &mut [u8], r: Report)
 
 // XSETBV loads EDX:EAX into XCR0.
 #[tactic(auto, unfolding(vcpu_report::specs::ExitReport::xcr0_after))]
-fn handle_xsetbv(b: &mut [u8], r: Report)
-    requires { accepted_of b.old ≡ true }
-    ensures { Holds b.new (with_xcr0 (session_of b.old) (xcr0_after (session_of b.old).xcr0 r)) }
+fn handle_xsetbv(b: &mut SessionRecord, r: Report)
+    ensures { Edited b.old b.new (λ s. with_xcr0 s (xcr0_after s.xcr0 r)) }
 {
-    if vcpu_exit::reason_of(r) == VmxExitReason::XSETBV {
+    if vcpu_exit::reason_of(r) == VmxExitReason::XSETBV as u32 {
         let registers = r.regs;
-        record_edits::put_xcr0(b, vcpu_exit::read_edx_eax(registers));
-        return;
+        b.put_xcr0(vcpu_exit::read_edx_eax(registers));
     }
 }
 
@@ -268,31 +256,30 @@ fn handle_xsetbv(b: &mut [u8], r: Report)
 
 // A failed entry ends the session.
 #[tactic(auto, unfolding(vcpu_report::specs::ExitReport::failed_entry))]
-fn failed_entry(b: &mut [u8], r: Report)
-    requires { accepted_of b.old ≡ true }
-    ensures { Holds b.new (failed_entry (session_of b.old) r) }
+fn failed_entry(b: &mut SessionRecord, r: Report)
+    ensures { Edited b.old b.new (λ s. failed_entry s r) }
 {
     store_failure(b, r);
-    record_edits::put_phase(b, Phase::ENDED);
+    b.put_phase(Phase::ENDED);
 }
 
 #[tactic(auto, unfolding(vcpu_report::specs::ExitReport::after_exit))]
-fn after_exit(b: &mut [u8], r: Report)
-    requires { (accepted_of b.old ≡ true) × (past_end r ≡ false) }
-    ensures { Holds b.new (after_exit (session_of b.old) r) }
+fn after_exit(b: &mut SessionRecord, r: Report)
+    requires { past_end r ≡ false }
+    ensures { Edited b.old b.new (λ s. after_exit s r) }
 {
     vmcs_after(b, r);
     handle_xsetbv(b, r);
-    record_edits::put_regs(b, vcpu_report::registers_after(r));
-    record_edits::put_phase(b, vcpu_report::phase_after(r));
+    b.put_regs(vcpu_report::registers_after(r));
+    b.put_phase(vcpu_report::phase_after(r));
 }
 
 // The record after a report that is not refused, and what the host is to do.
 #[tactic(auto, unfolding(vcpu_report::specs::ExitReport::accepted))]
-pub fn accept(b: &mut [u8], r: Report) -> AxVCpuExitReason
-    requires { (accepted_of b.old ≡ true) × (report_refusal (session_of b.old) r ≡ 0) }
-    ensures value { result ≡ (accepted (session_of b.old) r).answer }
-    ensures holds { Holds b.new (accepted (session_of b.old) r).session }
+pub fn accept(b: &mut SessionRecord, r: Report) -> AxVCpuExitReason
+    requires { report_refusal (session b.old) r ≡ 0 }
+    ensures value { result ≡ (accepted (session b.old) r).answer }
+    ensures holds { Edited b.old b.new (λ s. (accepted s r).session) }
 {
     if vcpu_exit::is_failed(r) {
         failed_entry(b, r);

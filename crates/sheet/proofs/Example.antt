@@ -2,8 +2,8 @@
 use mathlib.Core.Path.{◌≡◌, refl}
 use mathlib.Core.List.{flat_map}
 use Rattle.vmcs.specs.Control.{control_word, set_control}
-use Rattle.text.specs.Hex.{hex_digit, digit_value, hex_number}
-use Rattle.sheet.specs.Line.{only_letters, word_at, and_then, words_from, case_of, answer_text, printed_line}
+use Rattle.text.specs.Hex.{hex_digit, digit_value, and_then, hex_number}
+use Rattle.sheet.specs.Line.{only_letters, word_at, words_from, case_of, answer_text, printed_line}
 use Rattle.sheet.specs.Sheet.{lines_of, printed_lines, sheet_of}
 use Rattle.sheet.specs.Example.{example_input, example_output}
 

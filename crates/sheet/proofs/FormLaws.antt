@@ -1,7 +1,6 @@
 -- The reading by position is document 01's form: a line is read as a case exactly where it has that form, and what is printed for it
 -- is as document 01 says. Assumes nothing.
 use Prim.Native.Nat.{ℕ, ◌+◌, ◌-◌, ◌^◌, ◌≤◌, ◌<◌}
-use native.Mathlib.Nat.{suc-ne-zero}
 use native.Mathlib.Numerals.{add-one}
 use native.Mathlib.Omega.{arith}
 use mathlib.Core.Path.{◌≡◌, refl, sym, ap, subst, ◌∙◌}
@@ -11,35 +10,33 @@ use borrow.Author.Tests.{eqb-true, eq-eqb, le-ltb}
 use lib.Dec.{eqb}
 use lib.ListN.{length, get_or, take, drop, length-append, length-take, length-drop, take-append-drop, drop_of_length-le}
 use lib.Seq.{drop-cons, drop-drop, take_at, drop_at, get_or_at}
-use Rattle.text.specs.Hex.{hex_digits, hex_number}
-use Rattle.sheet.specs.Line.{only_letters, word_at, and_then, words_from, case_of, bad_text, case_text, printed_line}
+use Rattle.text.specs.Hex.{hex_digits, and_then, hex_number}
+use Rattle.sheet.specs.Line.{only_letters, word_at, words_from, case_of, bad_text, case_text, printed_line}
 use Rattle.sheet.specs.Form.{word_text, IsCase, Prints}
-use Rattle.text.specs.declared.hex.Parsed.{Parsed}
-use Rattle.text.specs.declared.hex.Parsed.TheVariants.{Number, Malformed}
-use Rattle.sheet.specs.declared.line.Case.{Case}
-use Rattle.sheet.specs.declared.line.Case.TheVariants.{Words, Bad}
+use Rattle.std.proofs.Common.{Option, None, Some}
+use Rattle.sheet.specs.declared.line.Words.{Words}
 use Rattle.text.proofs.HexLaws.{number_digits, digits_number}
-use Rattle.sheet.proofs.LineLaws.{IsWords, case_ind, name_within}
+use Rattle.sheet.proofs.LineLaws.{IsWords, words_of, case_ind, name_within}
 
 -- ---- one word
 
 -- a word's text is read as the word
-word_here : (front rest : List ℕ) (w at : ℕ) → length front ≡ at → w < 2 ^ 32 → word_at (front ++ (word_text w ++ rest)) at ≡ Number w
+word_here : (front rest : List ℕ) (w at : ℕ) → length front ≡ at → w < 2 ^ 32 → word_at (front ++ (word_text w ++ rest)) at ≡ Some w
 unfolding word_at
 word_here front rest w at l h =
     let line : List ℕ = front ++ (word_text w ++ rest) in
     let t : get_or line at 0 ≡ 9 = get_or_at front 9 (hex_digits 8 w ++ rest) 0 at l in
     let k : length (front ++ (9 ∷ [])) ≡ at + 1 = simp length-append (omega arith) in
     let d : drop (at + 1) line ≡ hex_digits 8 w ++ rest = rw (← (append_assoc front (9 ∷ []) (hex_digits 8 w ++ rest))) (drop_at (front ++ (9 ∷ [])) (hex_digits 8 w ++ rest) (at + 1) k) in
-    let n : hex_number 0 (hex_digits 8 w) ≡ Number w = number_digits 8 0 w ∙ ap Number (omega arith) in
+    let n : hex_number 0 (hex_digits 8 w) ≡ Some w = number_digits 8 0 w ∙ ap Some (omega arith) in
     rw (d, eq-eqb (get_or line at 0) 9 t) n
 
 -- what is read as a word is the word's text
-tab_case : (t : Bool) (x : Parsed) (w : ℕ) → cond t x Malformed ≡ Number w → (t ≡ true) × (x ≡ Number w)
+tab_case : (t : Bool) (x : Option ℕ) (w : ℕ) → cond t x None ≡ Some w → (t ≡ true) × (x ≡ Some w)
 tab_case true x w e = (refl, e)
-tab_case false x w e = let z : ◌≡◌ {A = ℕ} 0 1 = cc in absurd (suc-ne-zero 0 (sym z))
+tab_case false x w e = cc
 
-word_text_lem : (line : List ℕ) (at w next : ℕ) → next ≡ at + 9 → next ≤ length line → word_at line at ≡ Number w
+word_text_lem : (line : List ℕ) (at w next : ℕ) → next ≡ at + 9 → next ≤ length line → word_at line at ≡ Some w
     → (drop at line ≡ word_text w ++ drop next line) × (w < 2 ^ 32)
 unfolding word_at
 word_text_lem line at w next q h e =
@@ -58,17 +55,17 @@ word_text_lem line at w next q h e =
 
 -- ---- a line that is read as a case has the form
 
-CaseForm : List ℕ → Case → Type 0
-CaseForm line (Words n a b c d e) = IsCase line (take n line) a b c d e
-CaseForm line Bad = 0 ≤ 0
+CaseForm : List ℕ → Option Words → Type 0
+CaseForm line (Some w) = IsCase line (take w.name line) w.allowed0 w.allowed1 w.old w.set w.clear
+CaseForm line None = 0 ≤ 0
 
-pub read_form : (line : List ℕ) (n a b c d e : ℕ) → case_of line ≡ Words n a b c d e → (n ≤ length line) × IsCase line (take n line) a b c d e
+pub read_form : (line : List ℕ) (w : Words) → case_of line ≡ Some w → (w.name ≤ length line) × IsCase line (take w.name line) w.allowed0 w.allowed1 w.old w.set w.clear
 unfolding CaseForm
-read_form line n a b c d e r =
-    (name_within line (case_of line) refl n a b c d e r, subst (CaseForm line) r (case_ind (CaseForm line) (omega arith) line form))
+read_form line w r =
+    (name_within line (case_of line) refl w r, subst (CaseForm line) r (case_ind (CaseForm line) (omega arith) line form))
   where
     form : 46 ≤ length line → length line ≤ 61 → only_letters (take (length line - 45) line) ≡ true → (a b c d e : ℕ)
-        → IsWords line (length line - 45) a b c d e → CaseForm line (Words (length line - 45) a b c d e)
+        → IsWords line (length line - 45) a b c d e → CaseForm line (Some (words_of (length line - 45) a b c d e))
     form h k i a b c d e w =
         let n : ℕ = length line - 45 in
         let z : drop (n + 45) line ≡ [] = drop_of_length-le line {i = n + 45} (omega arith) in
@@ -93,7 +90,7 @@ read_form line n a b c d e r =
 -- ---- a line of the form is read as its case
 
 read_words : (line : List ℕ) (n a b c d e : ℕ) → length line ≡ n + 45 → 1 ≤ n → n ≤ 16 → only_letters (take n line) ≡ true → IsWords line n a b c d e
-    → case_of line ≡ Words n a b c d e
+    → case_of line ≡ Some (words_of n a b c d e)
 unfolding case_of words_from and_then
 read_words line n a b c d e l lo hi i w =
     let m : length line - 45 ≡ n = omega arith in
@@ -103,7 +100,7 @@ module _ (line name : List ℕ) (a b c d e : ℕ) (is : IsCase line name a b c d
   name_first : take (length name) line ≡ name
   name_first = rw is.text (take_at name (word_text a ++ (word_text b ++ (word_text c ++ (word_text d ++ word_text e)))) (length name) refl)
 
-  pub form_read : case_of line ≡ Words (length name) a b c d e
+  pub form_read : case_of line ≡ Some (words_of (length name) a b c d e)
   form_read =
       let n : ℕ = length name in
       let f₁ = name ++ word_text a in
@@ -130,9 +127,9 @@ module _ (line name : List ℕ) (a b c d e : ℕ) (is : IsCase line name a b c d
 
 -- ---- what is printed
 
-other_text : (line : List ℕ) → ((name : List ℕ) (a b c d e : ℕ) → IsCase line name a b c d e → ⊥) → (k : Case) → case_of line ≡ k → case_text line k ≡ bad_text
-other_text line never (Words n a b c d e) r = absurd (never (take n line) a b c d e (read_form line n a b c d e r).1)
-other_text line never Bad r = refl
+other_text : (line : List ℕ) → ((name : List ℕ) (a b c d e : ℕ) → IsCase line name a b c d e → ⊥) → (k : Option Words) → case_of line ≡ k → case_text line k ≡ bad_text
+other_text line never (Some w) r = absurd (never (take w.name line) w.allowed0 w.allowed1 w.old w.set w.clear (read_form line w r).1)
+other_text line never None r = refl
 
 pub prints : (line : List ℕ) → Prints line (printed_line line)
 unfolding printed_line

@@ -1,36 +1,44 @@
 -- Laws of the lines of a text, and of the whole sheet. Assumes nothing.
 use Prim.Native.Nat.{ℕ, suc, ◌+◌, ◌-◌, ◌*◌, ◌≤◌, ◌<◌}
-use native.Mathlib.Numerals.{add-one}
 use native.Mathlib.Nat.{not-suc-le-zero, le_trans}
 use native.Mathlib.Omega.{arith}
 use mathlib.Core.Path.{◌≡◌, refl}
 use mathlib.Core.Bool.{Bool, true, false, cond}
-use mathlib.Core.List.{List, [], ◌∷◌, ◌++◌, flat_map}
-use borrow.Author.Tests.{lt-ltb, le-ltb, eq-eqb, ne_eqb}
-use lib.ListN.{length, get_or, take, drop, length-append, length-drop, drop_of_length-le}
-use lib.Dec.{eqb}
-use lib.Seq.{drop-cons, drop-drop, take_all}
-use Rattle.text.specs.Put.{put_at}
-use Rattle.text.proofs.PutLaws.{put_first}
+use mathlib.Core.List.{List, [], ◌∷◌, flat_map}
+use borrow.Author.Tests.{lt-ltb, le-ltb, ltb-false}
+use lib.ListN.{length, take, drop, length-append, length-drop, drop_of_length-le}
+use lib.Dec.{eqb, ltb}
+use lib.Seq.{take_all}
+use Rattle.std.proofs.Common.{min, not, ap, sym, ◌∙◌, Option, None, Some, MatchOption}
+use Rattle.std.specs.List.{position_or_len}
+use Rattle.std.proofs.lemmas.List.Sums.{prefix_len-le-length}
+use native.Mathlib.Decide.{dec_lt}
+use mathlib.Core.Logic.{dite}
 use Rattle.sheet.specs.Line.{printed_line}
 use Rattle.sheet.specs.Sheet.{before, lines_of, printed_lines, too_long, sheet_of, line_length}
 use Rattle.sheet.proofs.LineLaws.{line_room}
 
--- ---- the first line's length: the loop's invariant is that it is i more than the rest's
+-- ---- the first line's length, as a chain of iterators finds it
 
-module _ (s : List ℕ) (i : ℕ) (inv : line_length s ≡ i + line_length (drop i s)) where
-  pub length_end : length s ≤ i → i ≡ line_length s
-  unfolding line_length
-  length_end h = rw (inv, drop_of_length-le s) (omega arith)
+length_first : (t : Bool) (m n : ℕ) → m ≡ n → cond (not t) (1 + m) 0 ≡ cond t 0 (suc n)
+length_first true m n e = refl
+length_first false m n e = omega (arith, e)
 
-  module _ (h : i < length s) where
-    pub length_stop : get_or s i 0 ≡ 10 → i ≡ line_length s
-    unfolding line_length
-    length_stop e = rw (inv, drop-cons s i 0, eq-eqb (get_or s i 0) 10) (omega arith)
+length_from : (s : List ℕ) → position_or_len (λ b. eqb b 10) s ≡ line_length s
+unfolding line_length
+length_from [] = refl
+length_from (b ∷ rest) = length_first (eqb b 10) _ _ (length_from rest)
 
-    pub length_more : (get_or s i 0 ≡ 10 → ⊥) → line_length s ≡ i + 1 + line_length (drop (i + 1) s)
-    unfolding line_length
-    length_more e = rw (inv, add-one, drop-cons s i 0, ne_eqb (get_or s i 0) 10) (omega arith)
+-- where it found a place, and where it found none
+found : (t : Bool) (m k : ℕ) → m ≤ k → ltb m k ≡ t → (r : Option ℕ) → r ≡ cond t (Some m) None → MatchOption r (k ≡ m) (λ n. n ≡ m)
+found true m k l h None e = cc
+found true m k l h (Some n) e = let q : n ≡ m = cc in q
+found false m k l h None e = omega (arith, ltb-false m k h)
+found false m k l h (Some n) e = cc
+
+pub length_found : (s : List ℕ) (r : Option ℕ) → r ≡ cond (ltb (position_or_len (λ b. eqb b 10) s) (length s)) (Some (position_or_len (λ b. eqb b 10) s)) None
+    → MatchOption r (length s ≡ line_length s) (λ n. n ≡ line_length s)
+length_found s r e = rw (← (length_from s)) (found _ _ _ (prefix_len-le-length _ s) refl r e)
 
 -- ---- the first line, and the lines after it
 
@@ -46,20 +54,23 @@ unfolding lines_of line_length
 first_line [] h = absurd (not-suc-le-zero h)
 first_line (b ∷ rest) h = first_line_at (eqb b 10) b rest (first_line rest)
 
--- what is printed from a place on: the first line's, and the rest's
-pub printed_more : (s : List ℕ) (from n : ℕ) → from < length s → n ≡ line_length (take (length s - from) (drop from s))
-    → printed_lines (drop from s) ≡ printed_line (take n (take (length s - from) (drop from s))) ++ printed_lines (drop (from + n + 1) s)
-unfolding printed_lines flat_map
-printed_more s from n h e =
-    let k : 0 < length (drop from s) = simp length-drop (omega arith) in
-    let w : take (length s - from) (drop from s) ≡ drop from s = take_all (length s - from) (drop from s) (simp length-drop (omega arith)) in
-    let f : n ≡ line_length (drop from s) = rw w at e in
-    let m : from + n + 1 ≡ from + suc n = omega arith in
-    rw (w, first_line (drop from s) k, ← f, m, drop-drop)
+pub lines_none : (s : List ℕ) → length s ≡ 0 → lines_of s ≡ []
+unfolding lines_of
+lines_none [] h = refl
+lines_none (b ∷ rest) h = absurd (omega (arith, h))
 
-pub printed_end : (s : List ℕ) (from : ℕ) → length s ≤ from → printed_lines (drop from s) ≡ []
-unfolding printed_lines flat_map lines_of
-printed_end s from h = rw (drop_of_length-le s)
+behind : (s : List ℕ) (n m : ℕ) → m ≡ min (length s) (n + 1) → drop (suc n) s ≡ drop m s
+behind s n m f =
+    dite (dec_lt n (length s))
+    (λ l. let k : m ≡ suc n = omega (arith, f) in ap (λ x. drop x s) (sym k))
+    (λ l. drop_of_length-le s {i = suc n} (omega arith) ∙ sym (drop_of_length-le s {i = m} (omega (arith, f))))
+
+-- the first line of n bytes, and the lines behind it and its line feed, from byte m on
+pub lines_next : (s : List ℕ) (n m : ℕ) → 0 < length s → n ≡ line_length s → m ≡ min (length s) (n + 1)
+    → lines_of s ≡ take n s ∷ lines_of (take (length s - m) (drop m s))
+lines_next s n m h e f =
+    let w : take (length s - m) (drop m s) ≡ drop m s = take_all (length s - m) (drop m s) (simp length-drop (omega arith)) in
+    first_line s h ∙ rw (w, ← e) (ap (λ rest. take n s ∷ lines_of rest) (behind s n m f))
 
 -- ---- six bytes of output for each byte of input are enough
 
@@ -104,10 +115,9 @@ pub sheet_lines : (s : List ℕ) → length s ≤ 65536 → sheet_of s ≡ print
 unfolding sheet_of
 sheet_lines s h = rw (le-ltb 65536 (length s))
 
-pub printed_fits : (s d : List ℕ) → length s ≤ 65536 → length d ≡ 393216 → length (printed_lines s) ≤ length d
-printed_fits s d h l = omega (arith, printed_room s)
-
--- the text that was put at the start is the sheet
-pub sheet_put : (s d d₁ text : List ℕ) (r : ℕ) → sheet_of s ≡ text → r ≡ 0 + length text → d₁ ≡ put_at d 0 text
-    → (r ≡ length (sheet_of s)) × (d₁ ≡ sheet_of s ++ drop r d)
-sheet_put s d d₁ text r e l p = rw e (put_first d d₁ text r l p)
+-- for each byte of a text of which lines are printed, and for a longer one
+pub sheet_room : (s : List ℕ) → length (sheet_of s) ≤ 393216
+sheet_room s =
+    dite (dec_lt 65536 (length s))
+    (λ l. omega (arith, ap length (sheet_long s l)))
+    (λ l. let h : length s ≤ 65536 = omega arith in omega (arith, ap length (sheet_lines s h), printed_room s))

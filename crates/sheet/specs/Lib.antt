@@ -2,4 +2,5 @@
 pub mod Line
 pub mod Form
 pub mod Sheet
+pub mod Left
 pub mod Example

@@ -16,6 +16,7 @@ pub fn fill<R: Read>(stream: &mut R, buffer: &mut [u8]) -> io::Result<usize>
     ensures end { IfOk result (λ n. n < length buffer.new → IsAtEnd (R.remaining stream.new)) }
 {
     let mut filled = 0;
+    // A read may give fewer bytes than there is room for, and `read_exact` does not say how many came before the end.
     while filled < buffer.len() {
         let count = stream.read(&mut buffer[filled..])?;
         if count == 0 {

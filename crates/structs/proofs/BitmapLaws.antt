@@ -1,6 +1,6 @@
 -- Laws of bits of a list of bytes. `bit_at_set_bits` says what each bit is after a range is written; those on ports and MSRs follow from it.
 -- Assumes nothing.
-use mathlib.Core.Path.{◌≡◌, refl, sym, ap, ◌∙◌}
+use mathlib.Core.Path.{◌≡◌, refl, sym, ap, subst, ◌∙◌}
 use mathlib.Core.Bool.{Bool, true, false, cond}
 use mathlib.Core.List.{List, ◌++◌}
 use mathlib.Core.Logic.{◌≢◌, dite}
@@ -9,8 +9,9 @@ use native.Mathlib.Nat.{add-zero, add-suc, sub_self}
 use native.Mathlib.Decide.{dec_le, dec_lt, ℕ_discrete}
 use native.Mathlib.Omega.{arith}
 use lib.Dec.{T, eqb}
-use lib.ListN.{length, get_or, set, take, drop, length-set, length-drop, get_or-append}
-use lib.Seq.{get_or-set_same, get_or-set_other, set_out, set-set, set_comm, take_all, get_or-append-add, ext_get_or}
+use Rattle.std.proofs.lemmas.List.Edits.{paste_none, fill_from_more}
+use lib.ListN.{length, get_or, set, take, drop, replicate, length-set, length-drop, get_or-append}
+use lib.Seq.{paste, get_or-set_same, get_or-set_other, set_out, set-set, set_comm, take_all, get_or-append-add, ext_get_or}
 use borrow.Author.Tests.{lt-ltb, le-ltb, le-leb, lt-leb, eq-eqb, ne_eqb}
 use Rattle.bits.specs.Words.{bit, with_bit}
 use Rattle.bits.specs.LittleEndian.{Below}
@@ -226,13 +227,27 @@ one_store xs i v b f =
     ∙ ap (bit (m % 8)) (get_or-set_same xs i (full_byte v) 0 f) ∙ bit_full_byte v (m % 8) (omega arith))
     (λ o. ap (bit (m % 8)) (get_or-set_other xs i (m / 8) (full_byte v) 0 (λ (e : m / 8 ≡ i). o (omega arith) (omega arith))))))
 
-pub next_byte : (xs : List ℕ) (n i : ℕ) (v : Bool) → Below 256 xs → n ≤ 8 * i → i < length xs
+next_byte : (xs : List ℕ) (n i : ℕ) (v : Bool) → Below 256 xs → n ≤ 8 * i → i < length xs
     → set (set_bits xs n (8 * i - n) v) i (full_byte v) ≡ set_bits xs n (8 * (i + 1) - n) v
 next_byte xs n i v b h f =
     let e : 8 * (i + 1) - 8 * i ≡ 8 = omega arith in
     sym (one_store (set_bits xs n (8 * i - n) v) i v (below_set_bits xs n (8 * i - n) v b) (omega (arith, length_set_bits xs n (8 * i - n) v)))
     ∙ ap (λ (c : ℕ). set_bits (set_bits xs n (8 * i - n) v) (8 * i) c v) (sym e)
     ∙ next_bits xs n (8 * i) (8 * (i + 1)) v h (omega arith)
+
+-- bytes filled one after another are their bits written
+pub filled : (xs : List ℕ) (i k : ℕ) (v : Bool) → Below 256 xs → i + k ≤ length xs
+    → paste xs i (replicate k (full_byte v)) k ≡ set_bits xs (8 * i) (8 * (i + k) - 8 * i) v
+filled xs i zero v b f = sym (paste_none xs i (replicate 0 (full_byte v))) ∙ rw add-zero (no_bits xs (8 * i) v)
+filled xs i (suc k) v b f =
+    let P : ℕ → Type 0 = λ n. paste xs i (replicate n (full_byte v)) n ≡ set_bits xs (8 * i) (8 * (i + n) - 8 * i) v in
+    let e : k + 1 ≡ suc k = omega arith in
+    let g : i + k + 1 ≡ i + (k + 1) = omega arith in
+    subst P e
+    (sym (fill_from_more xs i k (full_byte v) (omega arith))
+    ∙ ap (λ (ys : List ℕ). set ys (i + k) (full_byte v)) (filled xs i k v b (omega arith))
+    ∙ next_byte xs (8 * i) (i + k) v b (omega arith) (omega arith)
+    ∙ ap (λ (n : ℕ). set_bits xs (8 * i) (8 * n - 8 * i) v) g)
 
 -- ---- a part of a list from a place to its end
 

@@ -1,10 +1,12 @@
 // The three intercept frames, I/O bitmaps A and B and the MSR bitmaps, and the EPT pointer.
 // Ported from x86_vcpu src/vmx/structs.rs (Copyright 2025 The Axvisor Team, Apache-2.0). Changed: the frames are the caller's slices, all
-// 4,096 bytes of an I/O bitmap are reached, a range is written by whole bytes, and an edit that cannot be made answers a number.
+// 4,096 bytes of an I/O bitmap are reached, a range is written by whole bytes, an edit that cannot be made answers its refusal, and the intercepts of
+// reads, of writes and of both are set by one function, given the accesses.
 #![tactic(auto)]
 
-ghost use Rattle.std.specs.Prelude.{◌≡◌, [], ◌∷◌, ◌+◌, ◌-◌, ◌*◌, ◌≤◌, ◌<◌, min, length};
+ghost use Rattle.std.specs.Prelude.{◌≡◌, ◌+◌, ◌-◌, ◌*◌, ◌≤◌, ◌<◌, length};
 ghost use Rattle.bits.specs.Words.{with_bit};
+ghost use Rattle.definitions.specs.Refusals.{refusal_of};
 ghost use Rattle.structs.specs.Bitmap.{full_byte, set_bits};
 ghost use Rattle.structs.specs.Frames.{set_ports, port_refusal, edit_ports, quarter_of, msr_refusal, edit_msrs};
 ghost use Rattle.structs.specs.PortPart.{part_from, port_part};
@@ -49,11 +51,9 @@ fn set_each(frame: &mut [u8], from: usize, to: usize, v: bool)
     requires { (from ≤ to) × (to ≤ 8 * length frame.old) }
     ensures { frame.new ≡ set_bits frame.old from (to - from) v }
 {
-    let mut n = from;
-    while n < to {
+    for n in from..to {
         let i = n / 8;
         frame[i] = with_bit((n % 8) as u8, v, frame[i]);
-        n += 1;
     }
 }
 
@@ -62,12 +62,7 @@ fn set_bytes(frame: &mut [u8], first: usize, last: usize, v: bool)
     requires { (first ≤ last) × (last ≤ length frame.old) }
     ensures { frame.new ≡ set_bits frame.old (8 * first) (8 * last - 8 * first) v }
 {
-    let full = full_byte(v);
-    let mut i = first;
-    while i < last {
-        frame[i] = full;
-        i += 1;
-    }
+    frame[first..last].fill(full_byte(v));
 }
 
 // Sets the bits from..to of the frame to v: those up to a byte's start, whole bytes, and those that are left. Whole bytes make a long
@@ -76,7 +71,7 @@ fn set_bits(frame: &mut [u8], from: usize, to: usize, v: bool)
     requires { (length frame.old ≡ 4096) × (from ≤ to) × (to ≤ 32768) }
     ensures { frame.new ≡ set_bits frame.old from (to - from) v }
 {
-    let first = (from + 7) / 8;
+    let first = from.div_ceil(8);
     let last = to / 8;
     if last <= first {
         set_each(frame, from, to, v);
@@ -85,13 +80,6 @@ fn set_bits(frame: &mut [u8], from: usize, to: usize, v: bool)
         set_bytes(frame, first, last, v);
         set_each(frame, 8 * last, to, v);
     }
-}
-
-// The smaller of two numbers.
-fn smaller(x: usize, y: usize) -> usize
-    ensures { result ≡ min x y }
-{
-    if x < y { x } else { y }
 }
 
 // The part of a slice from byte n to its end.
@@ -108,52 +96,42 @@ fn part_from<'a>(s: &'a [u8], n: usize) -> &'a [u8]
 pub fn port_part<'a>(a: &'a [u8], b: &'a [u8], port: u32) -> &'a [u8]
     ensures { record { bytes = result.now; at = result.ref_ptr } ≡ port_part a.entry b.entry port }
 {
-    if a.len() != FRAME_SIZE {
-        return part_from(b, b.len());
-    }
-    if b.len() != FRAME_SIZE {
-        return part_from(b, b.len());
-    }
     let p = port as usize;
+    if a.len() != FRAME_SIZE || b.len() != FRAME_SIZE || PORTS <= p {
+        return part_from(b, b.len());
+    }
     if p < FIRST_PORT_OF_B {
         return part_from(a, p / 8);
     }
-    if p < PORTS {
-        return part_from(b, (p - FIRST_PORT_OF_B) / 8);
-    }
-    part_from(b, b.len())
+    part_from(b, (p - FIRST_PORT_OF_B) / 8)
 }
 
 // Sets the intercepts of count ports from `from` on to v: those below FIRST_PORT_OF_B in A, the others in B.
+// A and B come one by one, as C lends them; a wrong length is an answer (2), not excluded by a type.
 fn set_ports(a: &mut [u8], b: &mut [u8], from: usize, count: usize, v: bool)
     requires { (length a.old ≡ 4096) × (length b.old ≡ 4096) × (from + count ≤ 65536) }
     ensures { record { a = a.new; b = b.new } ≡ set_ports (record { a = a.old; b = b.old }) from count v }
 {
     let to = from + count;
-    let from_a = smaller(from, FIRST_PORT_OF_B);
-    let to_a = smaller(to, FIRST_PORT_OF_B);
-    set_bits(a, from_a, to_a, v);
+    let from_a = from.min(FIRST_PORT_OF_B);
+    let to_a = to.min(FIRST_PORT_OF_B);
+    // B first: then four numbers wait for the second call, and not six, and a call needs less stack.
     set_bits(b, from - from_a, to - to_a, v);
+    set_bits(a, from_a, to_a, v);
 }
 
-// The refusal of an edit of count ports from port_base on, in frames of these lengths, or 0.
+// The refusal of an edit of count ports from port_base on, in frames of these lengths.
 #[tactic(auto, unfolding(crate::specs::Frames::port_refusal))]
-pub fn port_refusal(len_a: usize, len_b: usize, port_base: u32, count: u32) -> u32
-    ensures { result ≡ port_refusal len_a len_b port_base count }
+pub fn port_refusal(len_a: usize, len_b: usize, port_base: u32, count: u32) -> Result<(), Refusal>
+    ensures { refusal_of result ≡ port_refusal len_a len_b port_base count }
 {
-    if len_a != FRAME_SIZE {
-        return Refusal::BYTES;
+    if len_a != FRAME_SIZE || len_b != FRAME_SIZE {
+        return Err(Refusal::Bytes);
     }
-    if len_b != FRAME_SIZE {
-        return Refusal::BYTES;
+    if count != 0 && PORTS < port_base as usize + count as usize {
+        return Err(Refusal::Port);
     }
-    if count == 0 {
-        return 0;
-    }
-    if PORTS < port_base as usize + count as usize {
-        return Refusal::PORT;
-    }
-    0
+    Ok(())
 }
 
 // Sets the intercepts of count ports from port_base on (IOBitmap::set_intercept_of_range).
@@ -164,39 +142,32 @@ pub fn set_intercept_of_range(
     port_base: u32,
     count: u32,
     intercept: bool,
-) -> u32
-    ensures { record { refusal = result; a = a.new; b = b.new } ≡ edit_ports a.old b.old port_base count intercept }
+) -> Result<(), Refusal>
+    ensures { record { refusal = refusal_of result; a = a.new; b = b.new } ≡ edit_ports a.old b.old port_base count intercept }
 {
-    let refusal = port_refusal(a.len(), b.len(), port_base, count);
-    if refusal != 0 {
-        return refusal;
+    port_refusal(a.len(), b.len(), port_base, count)?;
+    if count != 0 {
+        set_ports(a, b, port_base as usize, count as usize, intercept);
     }
-    if count == 0 {
-        return 0;
-    }
-    set_ports(a, b, port_base as usize, count as usize, intercept);
-    0
+    Ok(())
 }
 
 // Sets the intercept of one port (IOBitmap::set_intercept). The part that holds it is picked and read; the byte is stored in the frame
 // itself, since after a store through a `&mut` part nothing would be known of the two frames.
 #[tactic(auto, unfolding(crate::specs::Frames::edit_ports))]
-pub fn set_intercept(a: &mut [u8], b: &mut [u8], port: u32, intercept: bool) -> u32
-    ensures { record { refusal = result; a = a.new; b = b.new } ≡ edit_ports a.old b.old port 1 intercept }
+pub fn set_intercept(a: &mut [u8], b: &mut [u8], port: u32, intercept: bool) -> Result<(), Refusal>
+    ensures { record { refusal = refusal_of result; a = a.new; b = b.new } ≡ edit_ports a.old b.old port 1 intercept }
 {
-    let refusal = port_refusal(a.len(), b.len(), port, 1);
-    if refusal != 0 {
-        return refusal;
-    }
+    port_refusal(a.len(), b.len(), port, 1)?;
     let p = port as usize;
     let part = port_part(&a[..], &b[..], port);
     let byte = with_bit((p % 8) as u8, intercept, part[0]);
     if p < FIRST_PORT_OF_B {
         a[p / 8] = byte;
-        return 0;
+    } else {
+        b[(p - FIRST_PORT_OF_B) / 8] = byte;
     }
-    b[(p - FIRST_PORT_OF_B) / 8] = byte;
-    0
+    Ok(())
 }
 
 // An access to an MSR.
@@ -211,75 +182,50 @@ pub enum Access {
 fn quarter(access: Access, msr: usize) -> usize
     ensures { result ≡ quarter_of access msr }
 {
-    match access {
-        Access::Read => { if msr < LOW_MSRS { 0 } else { 1 } }
-        Access::Write => { if msr < LOW_MSRS { 2 } else { 3 } }
+    match (access, msr < LOW_MSRS) {
+        (Access::Read, true) => 0,
+        (Access::Read, false) => 1,
+        (Access::Write, true) => 2,
+        (Access::Write, false) => 3,
     }
 }
 
-// The refusal of an edit of the MSRs from..to, in a frame of this length, or 0.
+// The refusal of an edit of the MSRs from..to, in a frame of this length.
 #[tactic(auto, unfolding(crate::specs::Frames::msr_refusal))]
-pub fn msr_refusal(len: usize, from: usize, to: usize) -> u32
-    ensures { result ≡ msr_refusal len from to }
+pub fn msr_refusal(len: usize, from: usize, to: usize) -> Result<(), Refusal>
+    ensures { refusal_of result ≡ msr_refusal len from to }
 {
     if len != FRAME_SIZE {
-        return Refusal::BYTES;
+        return Err(Refusal::Bytes);
     }
     if to <= LOW_MSRS {
-        return 0;
+        return Ok(());
     }
-    if from < HIGH_MSRS {
-        return Refusal::MSR;
+    if from < HIGH_MSRS || HIGH_MSRS_END < to {
+        return Err(Refusal::Msr);
     }
-    if HIGH_MSRS_END < to {
-        return Refusal::MSR;
-    }
-    0
+    Ok(())
 }
 
-// Sets the intercepts of one access to count MSRs from msr_base on (MsrBitmap::set_intercept).
-#[tactic(auto, unfolding(crate::specs::Frames::edit_msrs, crate::specs::Frames::set_msrs))]
-fn set_access(frame: &mut [u8], access: Access, msr_base: u32, count: u32, intercept: bool) -> u32
-    ensures { record { refusal = result; frame = frame.new } ≡ edit_msrs frame.old msr_base count (access ∷ []) intercept }
+// Sets the intercepts of these accesses to count MSRs from msr_base on (of MsrBitmap, set_intercept, set_read_intercept and set_write_intercept).
+#[tactic(auto, using(crate::proofs::MsrLaws::quarter_le), unfolding(crate::specs::Frames::edit_msrs, crate::specs::Frames::set_msrs))]
+pub fn set_msr_intercepts(
+    frame: &mut [u8],
+    accesses: &[Access],
+    msr_base: u32,
+    count: u32,
+    intercept: bool,
+) -> Result<(), Refusal>
+    ensures { record { refusal = refusal_of result; frame = frame.new } ≡ edit_msrs frame.old msr_base count accesses.now intercept }
 {
     let from = msr_base as usize;
     let msrs = count as usize;
-    let refusal = msr_refusal(frame.len(), from, from + msrs);
-    if refusal != 0 {
-        return refusal;
+    msr_refusal(frame.len(), from, from + msrs)?;
+    for access in accesses {
+        let bit = quarter(*access, from) * LOW_MSRS + from % LOW_MSRS;
+        set_bits(frame, bit, bit + msrs, intercept);
     }
-    let bit = quarter(access, from) * LOW_MSRS + from % LOW_MSRS;
-    set_bits(frame, bit, bit + msrs, intercept);
-    0
-}
-
-// Sets the intercept of reads of an MSR (MsrBitmap::set_read_intercept).
-pub fn set_read_intercept(frame: &mut [u8], msr: u32, intercept: bool) -> u32
-    ensures { record { refusal = result; frame = frame.new } ≡ edit_msrs frame.old msr 1 (Access.Read ∷ []) intercept }
-{
-    set_access(frame, Access::Read, msr, 1, intercept)
-}
-
-// Sets the intercept of writes of an MSR (MsrBitmap::set_write_intercept).
-pub fn set_write_intercept(frame: &mut [u8], msr: u32, intercept: bool) -> u32
-    ensures { record { refusal = result; frame = frame.new } ≡ edit_msrs frame.old msr 1 (Access.Write ∷ []) intercept }
-{
-    set_access(frame, Access::Write, msr, 1, intercept)
-}
-
-// Sets the intercepts of reads and writes of count MSRs from msr_base on. Both edits are refused alike, so the number of the first is not looked at.
-pub fn set_msr_intercepts(frame: &mut [u8], msr_base: u32, count: u32, intercept: bool) -> u32
-    ensures { record { refusal = result; frame = frame.new } ≡ edit_msrs frame.old msr_base count (Access.Read ∷ Access.Write ∷ []) intercept }
-{
-    set_access(frame, Access::Read, msr_base, count, intercept);
-    set_access(frame, Access::Write, msr_base, count, intercept)
-}
-
-// Sets the intercepts of reads and writes of one MSR, as the Rust's function of this name does.
-pub fn set_msr_intercept_of_range(frame: &mut [u8], msr: u32, intercept: bool) -> u32
-    ensures { record { refusal = result; frame = frame.new } ≡ edit_msrs frame.old msr 1 (Access.Read ∷ Access.Write ∷ []) intercept }
-{
-    set_msr_intercepts(frame, msr, 1, intercept)
+    Ok(())
 }
 
 // EPT paging-structure memory type: write-back.

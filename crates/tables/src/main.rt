@@ -3,11 +3,10 @@
 #![tactic(auto)]
 
 use std::io;
-use vmcs::FieldAnswer;
 
 fn print_vector(rt: &impl Print, vector: u8) -> io::Result<()> {
     let int_type = definitions::from_vector(vector);
-    let number = definitions::type_number(int_type);
+    let number = u32::from(int_type);
     let coded = u8::from(definitions::vector_has_error_code(vector));
     let soft = u8::from(definitions::is_soft(int_type));
     println!(rt; "{vector} {number} {coded} {soft}")
@@ -22,10 +21,7 @@ fn print_vectors(rt: &impl Print) -> io::Result<()> {
 
 fn is_field(encoding: u64) -> bool {
     let session = vcpu_session::new();
-    matches!(
-        vmcs::vmcs_read(session.vmcs, encoding),
-        FieldAnswer::Value(_)
-    )
+    vmcs::vmcs_read(session.vmcs, encoding).is_ok()
 }
 
 // An encoding of the table: its kind, its width in bits, and the place of its field among those of that width.

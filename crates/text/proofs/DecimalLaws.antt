@@ -5,10 +5,10 @@ use native.Mathlib.Decide.{dec_le, ℕ_discrete}
 use native.Mathlib.Omega.{arith, pow_step}
 use mathlib.Core.Path.{◌≡◌, refl, sym, ap, ◌∙◌}
 use mathlib.Core.Logic.{◌≢◌, dite}
-use mathlib.Core.List.{List, [], ◌∷◌, ◌++◌}
+use mathlib.Core.List.{List, [], ◌∷◌, ◌++◌, append-nil}
 use borrow.Author.Tests.{le-leb, lt-leb, ne_eqb}
 use lib.Arith.{mod-mul}
-use lib.ListN.{length, get_or, replicate, length-append, length-replicate}
+use lib.ListN.{length, get_or, set, replicate, length-append, length-replicate}
 use Rattle.text.specs.Decimal.{decimal_column, decimal_in, decimal_number, RightIn}
 
 -- ---- the last k digits of a number, the highest first
@@ -97,6 +97,74 @@ pub right_in : (k n : ℕ) → 0 < k → n < 10 ^ k → RightIn k n (decimal_in 
 right_in zero n p h = absurd (omega arith)
 right_in (suc k) n p h = columns_in k n h
 
+-- ---- the digits written from the last column on, over blanks
+
+with_blanks : (blanks k n : ℕ) (d : List ℕ) → 1 ≤ k → n < 10 ^ k → d ≡ decimal_in k n
+    → (n < 10 ^ (blanks + k)) × (replicate blanks 32 ++ d ≡ decimal_in (blanks + k) n)
+unfolding decimal_column
+with_blanks zero k n d l h e = rw (zero-add k) (h, e)
+with_blanks (suc blanks) k n d l h e =
+    let ih = with_blanks blanks k n d l h e in
+    let s : suc blanks + k ≡ suc (blanks + k) = omega arith in
+    rw (s, ne_eqb (blanks + k) 0 (λ z. omega (arith, l, z)), lt-leb (10 ^ (blanks + k)) n ih.0)
+    (omega (arith, ih.0, pow_step 10 (blanks + k)), ap (λ (x : List ℕ). 32 ∷ x) ih.1)
+
+-- of `size` columns the first `blanks` are blanks and the others the number's last digits; rest is the number above them
+pub record Written (size blanks n : ℕ) (text : List ℕ) (rest : ℕ) : Type 0 where
+  pub count : ℕ
+  pub columns : blanks + count ≡ size
+  pub parts : text ≡ replicate blanks 32 ++ digits_in count n
+  pub left : rest ≡ n / 10 ^ count
+  pub more : 0 < count → 0 < rest
+
+pub none_written : (size n : ℕ) → Written size size n (replicate size 32) n
+none_written size n = record { count = 0; columns = omega arith; parts = sym (append-nil (replicate size 32)); left = sym (div-one n); more = λ h. absurd (omega arith) }
+
+reaches : (k n rest : ℕ) → rest ≡ n / 10 ^ k → 0 < rest → 10 ^ k ≤ n
+reaches k n rest e h =
+    let p : 0 < 10 ^ k = one-le-pow k 10 (omega arith) in
+    let m : 1 ≤ n / 10 ^ k = omega (arith, e, h) in
+    omega (arith, (le-div_iff_mul-le p).0 m)
+
+set_blank : (j d : ℕ) (digits : List ℕ) → set (replicate (suc j) 32 ++ digits) j d ≡ replicate j 32 ++ (d ∷ digits)
+set_blank zero d digits = refl
+set_blank (suc j) d digits = ap (λ (x : List ℕ). 32 ∷ x) (set_blank j d digits)
+
+module _ (size j n rest : ℕ) (text : List ℕ) (w : Written size (suc j) n text rest) where
+  digit_set : set text j (48 + rest % 10) ≡ replicate j 32 ++ digits_in (suc w.count) n
+  digit_set = rw (w.parts, w.left) (set_blank j (48 + n / 10 ^ w.count % 10) (digits_in w.count n))
+
+  rest_left : rest / 10 ≡ n / 10 ^ suc w.count
+  rest_left = rw (w.left, pow-suc 10 w.count) (div-div-eq-div-mul n (10 ^ w.count) 10)
+
+  one_more : (rest / 10 ≡ 0 → ⊥) → Written size j n (set text j (48 + rest % 10)) (rest / 10)
+  one_more h = record { count = suc w.count; columns = omega (arith, w.columns); parts = digit_set; left = rest_left; more = λ _. omega (arith, h) }
+
+  last : rest / 10 ≡ 0 → set text j (48 + rest % 10) ≡ decimal_in size n
+  last h =
+      let k : ℕ = suc w.count in
+      let p : 0 < 10 ^ k = one-le-pow k 10 (omega arith) in
+      let z : n / 10 ^ k < 1 = omega (arith, rest_left, h) in
+      let l : n < 10 ^ k = omega (arith, (div-lt_iff_lt-mul p).0 z) in
+      let s : j + k ≡ size = omega (arith, w.columns) in
+      digit_set ∙ (with_blanks j k n (digits_in k n) (omega arith) l (sym (all_digits w.count n (λ g. reaches w.count n rest w.left (w.more g))))).1 ∙ ap (λ (x : ℕ). decimal_in x n) s
+
+pub written_more : (size i n rest : ℕ) (text : List ℕ) → 0 < i → Written size i n text rest → (rest / 10 ≡ 0 → ⊥) → Written size (i - 1) n (set text (i - 1) (48 + rest % 10)) (rest / 10)
+written_more size zero n rest text h w m = absurd (omega arith)
+written_more size (suc j) n rest text h w m = let e : suc j - 1 ≡ j = omega arith in rw e (one_more size j n rest text w m)
+
+pub written_last : (size i n rest : ℕ) (text : List ℕ) → 0 < i → Written size i n text rest → rest / 10 ≡ 0 → set text (i - 1) (48 + rest % 10) ≡ decimal_in size n
+written_last size zero n rest text h w z = absurd (omega arith)
+written_last size (suc j) n rest text h w z = let e : suc j - 1 ≡ j = omega arith in rw e (last size j n rest text w z)
+
+pub written_all : (size i n rest : ℕ) (text : List ℕ) → i ≤ 0 → 0 < size → Written size i n text rest → text ≡ decimal_in size n
+written_all zero i n rest text h p w = absurd (omega arith)
+written_all (suc k) zero n rest text h p w =
+    let e : w.count ≡ suc k = omega (arith, w.columns) in
+    let m = reaches w.count n rest w.left (w.more (omega (arith, e))) in
+    w.parts ∙ ap (λ (x : ℕ). digits_in x n) e ∙ sym (all_digits k n (λ g. omega (arith, m, ap (λ (x : ℕ). 10 ^ x) e, pow_step 10 k)))
+written_all (suc k) (suc i) n rest text h p w = absurd (omega arith)
+
 -- ---- one text alone is a number right in columns
 
 abbrev Digits : List ℕ → Type 0
@@ -136,22 +204,12 @@ no_blank n (b ∷ rest) l r f e =
     omega (arith, (le-div_iff_mul-le p).0 m) in
     (rw (pow_step 10 (length rest)) w, sym s.1 ∙ sym (all_digits (length rest) n reach))
 
-with_blanks : (blanks n : ℕ) (d : List ℕ) → 1 ≤ length d → n < 10 ^ length d → d ≡ decimal_in (length d) n
-    → (n < 10 ^ (blanks + length d)) × (replicate blanks 32 ++ d ≡ decimal_in (blanks + length d) n)
-unfolding decimal_column
-with_blanks zero n d l h e = rw (zero-add (length d)) (h, e)
-with_blanks (suc blanks) n d l h e =
-    let ih = with_blanks blanks n d l h e in
-    let s : suc blanks + length d ≡ suc (blanks + length d) = omega arith in
-    rw (s, ne_eqb (blanks + length d) 0 (λ z. omega (arith, l, z)), lt-leb (10 ^ (blanks + length d)) n ih.0)
-    (omega (arith, ih.0, pow_step 10 (blanks + length d)), ap (λ (x : List ℕ). 32 ∷ x) ih.1)
-
 pub right_is : (k n : ℕ) (s : List ℕ) → RightIn k n s → s ≡ decimal_in k n
 right_is k n s r =
     let e : decimal_number 0 r.digits ≡ n = sym (blanks_spell r.blanks 0 r.digits) ∙ ap (decimal_number 0) (sym r.parts) ∙ r.spells in
     let w = no_blank n r.digits r.least r.decimal r.first e in
     let c : r.blanks + length r.digits ≡ k = omega (arith, ap length r.parts, length-append (replicate r.blanks 32) r.digits, length-replicate {A = ℕ} r.blanks 32, r.columns) in
-    r.parts ∙ (with_blanks r.blanks n r.digits r.least w.0 w.1).1 ∙ ap (λ (x : ℕ). decimal_in x n) c
+    r.parts ∙ (with_blanks r.blanks (length r.digits) n r.digits r.least w.0 w.1).1 ∙ ap (λ (x : ℕ). decimal_in x n) c
 
 -- two texts that are one number right in the same columns are equal
 pub right_only : (k n : ℕ) (s t : List ℕ) → RightIn k n s → RightIn k n t → s ≡ t

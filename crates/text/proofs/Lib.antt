@@ -1,3 +1,4 @@
 pub mod HexLaws
 pub mod DecimalLaws
 pub mod PutLaws
+pub mod WritingLaws

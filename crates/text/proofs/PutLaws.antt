@@ -4,7 +4,7 @@ use native.Mathlib.Nat.{add-zero}
 use native.Mathlib.Omega.{arith}
 use mathlib.Core.Path.{◌≡◌, sym, ap, ◌∙◌}
 use mathlib.Core.List.{List, [], ◌++◌, append_assoc}
-use lib.ListN.{length, take, drop, length-append, take-append-drop}
+use lib.ListN.{length, take, drop, length-append, length-take, length-drop, take-append-drop}
 use lib.Seq.{paste, drop-drop, take-length, take_at, drop_at, length-take-le}
 use Rattle.text.specs.Put.{put_at}
 
@@ -17,6 +17,10 @@ paste_all d at text = rw (take-length text, append_assoc)
 pub put_none : (d : List ℕ) (at : ℕ) → put_at d at [] ≡ d
 unfolding put_at
 put_none d at = rw add-zero (take-append-drop at d)
+
+pub put_length : (d : List ℕ) (at : ℕ) (text : List ℕ) → at + length text ≤ length d → length (put_at d at text) ≡ length d
+unfolding put_at
+put_length d at text h = simp (length-append, length-take, length-drop) (omega arith)
 
 -- a text put after another is both put at once
 pub put_put : (d : List ℕ) (at : ℕ) (a b : List ℕ) → at + length a ≤ length d → put_at (put_at d at a) (at + length a) b ≡ put_at d at (a ++ b)

@@ -3,3 +3,4 @@ pub mod Ascii
 pub mod Hex
 pub mod Decimal
 pub mod Put
+pub mod Writing

@@ -17,7 +17,7 @@ use Rattle.structs.specs.declared.Access.{Access}
 use Rattle.structs.specs.declared.Access.TheVariants.{Read, Write}
 use Rattle.trap_sheet.specs.Runs.{Run, count_of, runs_of}
 use Rattle.trap_sheet.specs.Sheet.{ports, msrs, total_in, runs_in, run_line}
-use Rattle.trap_sheet.specs.Search.{bit_count, bit_runs, bit_lines, access_runs, access_lines}
+use Rattle.trap_sheet.specs.Search.{run_lines, bit_count, bit_runs, bit_lines, access_runs, access_lines}
 use Rattle.trap_sheet.proofs.RunLaws.{most, shifted_length, runs_shifted, count_same}
 use Rattle.trap_sheet.proofs.OnesLaws.{count_add}
 
@@ -121,15 +121,8 @@ high_part_lem : (half : List ℕ) → high_part half ≡ drop 1024 half
 high_part_lem half = append-nil (take (length half - 1024) (drop 1024 half)) ∙ part_is_drop half 1024
 
 -- at most half of the bits start a run
-runs_most : (base : ℕ) (xs : List ℕ) → 2 * length (bit_runs base xs) ≤ 8 * length xs + 1
+pub runs_most : (base : ℕ) (xs : List ℕ) → 2 * length (bit_runs base xs) ≤ 8 * length xs + 1
 runs_most base xs = rw (shifted_length base (runs_of (bit_at xs) 0 (8 * length xs))) (most (bit_at xs) 0 (8 * length xs))
-
-pub access_count : (half : List ℕ) (m n : ℕ) → m ≡ length (bit_runs 0 (low_part half)) → n ≡ length (bit_runs 0 (high_part half)) → m + n ≡ length (access_runs half)
-access_count half m n p q =
-    let r = runs_of (bit_at (drop 1024 half)) 0 (8 * length (drop 1024 half)) in
-    let e : length (bit_runs 0xC000_0000 (drop 1024 half)) ≡ length (bit_runs 0 (drop 1024 half)) = shifted_length 0xC000_0000 r ∙ sym (shifted_length 0 r) in
-    rw (length-append (bit_runs 0 (take 1024 half)) (bit_runs 0xC000_0000 (drop 1024 half)), e)
-    (ap₂ ◌+◌ (p ∙ ap (λ (xs : List ℕ). length (bit_runs 0 xs)) (low_part_lem half)) (q ∙ ap (λ (xs : List ℕ). length (bit_runs 0 xs)) (high_part_lem half)))
 
 pub access_most : (half : List ℕ) → length half ≡ 2048 → length (access_runs half) ≤ 8192
 access_most half l =
@@ -138,10 +131,11 @@ access_most half l =
     rw (length-append (bit_runs 0 (take 1024 half)) (bit_runs 0xC000_0000 (drop 1024 half)))
     (omega (arith, m, n, length-take 1024 half, length-drop 1024 half))
 
-lines_append : (kind : List ℕ) (rs qs : List Run) → flat_map (run_line kind) (rs ++ qs) ≡ flat_map (run_line kind) rs ++ flat_map (run_line kind) qs
+-- the lines of some runs, and then of others
+pub lines_append : (kind : List ℕ) (rs qs : List Run) → run_lines kind (rs ++ qs) ≡ run_lines kind rs ++ run_lines kind qs
 unfolding flat_map
 lines_append kind [] qs = refl
-lines_append kind (r ∷ rs) qs = ap (λ (l : List ℕ). run_line kind r ++ l) (lines_append kind rs qs) ∙ sym (append_assoc (run_line kind r) (flat_map (run_line kind) rs) (flat_map (run_line kind) qs))
+lines_append kind (r ∷ rs) qs = ap (λ (l : List ℕ). run_line kind r ++ l) (lines_append kind rs qs) ∙ sym (append_assoc (run_line kind r) (run_lines kind rs) (run_lines kind qs))
 
 pub access_lines_lem : (kind half : List ℕ) → access_lines kind half ≡ bit_lines kind 0 (low_part half) ++ bit_lines kind 0xC000_0000 (high_part half)
 access_lines_lem kind half =

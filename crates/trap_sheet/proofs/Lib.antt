@@ -8,3 +8,5 @@ pub mod LineLaws
 pub mod SheetLaws
 pub mod AnswerLaws
 pub mod OnlyAnswer
+pub mod CountLaws
+pub mod AcceptedLaws

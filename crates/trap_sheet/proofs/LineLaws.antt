@@ -8,7 +8,7 @@ use lib.ListN.{length, length-append}
 use Rattle.structs.specs.Frames.{port_intercept, msr_intercept}
 use Rattle.structs.specs.declared.Access.TheVariants.{Read, Write}
 use Rattle.text.specs.Hex.{hex_digits, hex_number}
-use Rattle.text.specs.declared.hex.Parsed.TheVariants.{Number}
+use Rattle.std.proofs.Common.{Some}
 use Rattle.text.proofs.HexLaws.{number_digits}
 use Rattle.text.proofs.DecimalLaws.{right_in}
 use Rattle.trap_sheet.specs.Runs.{Run, runs_of}
@@ -34,8 +34,8 @@ four P f (a ∷ b ∷ c ∷ []) h = absurd (omega arith)
 four P f (a ∷ b ∷ c ∷ d ∷ []) h = f a b c d
 four P f (a ∷ b ∷ c ∷ d ∷ e ∷ rest) h = absurd (omega arith)
 
-word_back : (n : ℕ) → n < 2 ^ 32 → hex_number 0 (hex_digits 8 n) ≡ Number n
-word_back n h = number_digits 8 0 n ∙ ap Number (omega arith)
+word_back : (n : ℕ) → n < 2 ^ 32 → hex_number 0 (hex_digits 8 n) ≡ Some n
+word_back n h = number_digits 8 0 n ∙ ap Some (omega arith)
 
 module _ (r : Run) where
   pub run_length : (kind : List ℕ) → length kind ≡ 4 → length (run_line kind r) ≡ 41

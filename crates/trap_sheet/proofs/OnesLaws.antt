@@ -2,13 +2,13 @@
 use mathlib.Core.Path.{◌≡◌, refl, sym, ap, ap₂, ◌∙◌}
 use mathlib.Core.Bool.{Bool}
 use mathlib.Core.List.{List, [], ◌∷◌}
-use Prim.Native.Nat.{ℕ, zero, suc, ◌+◌, ◌*◌, ◌/◌, ◌%◌, ◌^◌, ◌≤◌, ◌<◌}
+use Prim.Native.Nat.{ℕ, zero, suc, ◌+◌, ◌*◌, ◌/◌, ◌%◌, ◌^◌, ◌<◌}
 use native.Mathlib.Nat.{add-zero, zero-add, pow-suc}
-use native.Mathlib.Numerals.{add-one}
 use native.Mathlib.Omega.{arith}
 use lib.Count.{ones, ones_step}
-use lib.ListN.{length, get_or, drop, drop_of_length-le}
-use lib.Seq.{drop-cons}
+use lib.ListN.{length, drop}
+use Rattle.std.proofs.Common.{sum, map}
+use Rattle.std.proofs.lemmas.List.Sums.{sum-map, sum_by-cons}
 use Rattle.bits.specs.Words.{bit, flag}
 use Rattle.bits.specs.LittleEndian.{Below}
 use Rattle.bits.proofs.BitLaws.{bit_suc}
@@ -68,15 +68,11 @@ ones_are_items (b ∷ bs) h =
     (sym (ones_counted 8 b (h 0)) ∙ count_same (λ i. bit i b) (bit_at (b ∷ bs)) 0 0 8 (λ i l. ap (λ (j : ℕ). bit j b) (zero-add i) ∙ sym (first_byte_bit b bs i l) ∙ ap (bit_at (b ∷ bs)) (sym (zero-add i))))
     (ones_are_items bs (λ i. h (suc i)) ∙ count_same (bit_at bs) (bit_at (b ∷ bs)) 0 (0 + 8) (8 * length bs) (λ i _. ap (bit_at bs) (zero-add i) ∙ sym (next_byte_bit b bs i))))
 
--- ---- the loop: what is counted, and what is left
-
 pub ones_none : (xs : List ℕ) → 0 + ones_of (drop 0 xs) ≡ ones_of xs
 ones_none xs = zero-add _
 
-pub ones_more : (xs : List ℕ) (i : ℕ) → i < length xs → ones_of (drop i xs) ≡ ones (get_or xs i 0) + ones_of (drop (i + 1) xs)
+-- the same as a chain of iterators sums them
+pub ones_summed : (xs : List ℕ) → sum (map ones xs) ≡ ones_of xs
 unfolding ones_of
-ones_more xs i h = rw (drop-cons xs i 0 h, add-one)
-
-pub ones_end : (xs : List ℕ) (i : ℕ) → length xs ≤ i → ones_of (drop i xs) ≡ 0
-unfolding ones_of
-ones_end xs i h = rw (drop_of_length-le xs)
+ones_summed [] = refl
+ones_summed (b ∷ bs) = sum-map ones (b ∷ bs) ∙ sum_by-cons ones b bs ∙ ap (λ n. ones b + n) (sym (sum-map ones bs) ∙ ones_summed bs)

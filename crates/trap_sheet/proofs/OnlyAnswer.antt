@@ -9,7 +9,7 @@ use mathlib.Core.List.{List, [], ◌∷◌, ◌++◌}
 use lib.ListN.{length, drop, length-take, length-drop, take-append-drop}
 use lib.Seq.{drop-drop}
 use Rattle.text.specs.Hex.{hex_digits, hex_number}
-use Rattle.text.specs.declared.hex.Parsed.TheVariants.{Number}
+use Rattle.std.proofs.Common.{Some}
 use Rattle.text.proofs.HexLaws.{digits_number}
 use Rattle.text.proofs.DecimalLaws.{right_only}
 use Rattle.trap_sheet.specs.Runs.{Run}
@@ -21,7 +21,7 @@ part : (s t : List ℕ) (i k : ℕ) → columns i k s ≡ columns i k t → drop
 part s t i k p q = sym (take-append-drop k (drop i s)) ∙ ap₂ ◌++◌ p (drop-drop k i s ∙ q ∙ sym (drop-drop k i t)) ∙ take-append-drop k (drop i t)
 
 -- eight digits are determined by what they spell
-digits_only : (s t : List ℕ) (i n : ℕ) → i ≤ 32 → length (drop 40 s) ≡ 1 → length (drop 40 t) ≡ 1 → hex_number 0 (columns i 8 s) ≡ Number n → hex_number 0 (columns i 8 t) ≡ Number n
+digits_only : (s t : List ℕ) (i n : ℕ) → i ≤ 32 → length (drop 40 s) ≡ 1 → length (drop 40 t) ≡ 1 → hex_number 0 (columns i 8 s) ≡ Some n → hex_number 0 (columns i 8 t) ≡ Some n
     → columns i 8 s ≡ columns i 8 t
 digits_only s t i n h x y p q =
     let l : length (columns i 8 s) ≡ length (columns i 8 t) =

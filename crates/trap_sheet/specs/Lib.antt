@@ -2,4 +2,6 @@
 pub mod Runs
 pub mod Sheet
 pub mod Search
+pub mod Left
+pub mod Answer
 pub mod Reference

@@ -1,7 +1,7 @@
 -- The trap sheet as a reader takes it: which lists of runs are those of the frames, in ≤ and ≡ alone; what a line says, by its columns; and what the call answers for
 -- such lists. It shares with `trap_sheet` the intercepts, `Run`, the record of the answer and `ascii`, and nothing of runs, totals and lines. The call answers so
 -- (`answers` of proofs/AnswerLaws.antt), and one answer alone is so (proofs/OnlyAnswer.antt). Assumes nothing.
-use Rattle.std.specs.Prelude.{ℕ, ◌+◌, ◌-◌, ◌*◌, ◌≤◌, ◌<◌, ◌≡◌, Bool, true, false, cond, List, [], ◌∷◌, leb, length, take, drop, replicate}
+use Rattle.std.specs.Prelude.{ℕ, ◌+◌, ◌-◌, ◌*◌, ◌≤◌, ◌<◌, ◌≡◌, Bool, true, false, cond, Some, List, [], ◌∷◌, leb, length, take, drop, replicate}
 use Prim.Native.Char.{code}
 use Rattle.structs.specs.Frames.{port_intercept, msr_intercept}
 use Rattle.structs.specs.Numbers.{IsPort, IsMsr}
@@ -9,7 +9,6 @@ use Rattle.structs.specs.declared.Access.TheVariants.{Read, Write}
 use Rattle.text.specs.Ascii.{ascii}
 use Rattle.text.specs.Hex.{hex_number}
 use Rattle.text.specs.Decimal.{RightIn}
-use Rattle.text.specs.declared.hex.Parsed.TheVariants.{Number}
 use Rattle.trap_sheet.specs.Runs.{Run}
 use Rattle.trap_sheet.specs.Sheet.{TrapSheet}
 
@@ -54,8 +53,8 @@ columns i k line = take k (drop i line)
 pub record RunText (name : List ℕ) (r : Run) (line : List ℕ) : Type 0 where
   pub kind : columns 0 4 line ≡ name
   pub blanks : (columns 4 2 line ≡ ascii "  ") × (columns 14 2 line ≡ ascii "  ") × (columns 24 2 line ≡ ascii "  ")
-  pub first : hex_number 0 (columns 6 8 line) ≡ Number r.first
-  pub last : hex_number 0 (columns 16 8 line) ≡ Number r.last
+  pub first : hex_number 0 (columns 6 8 line) ≡ Some r.first
+  pub last : hex_number 0 (columns 16 8 line) ≡ Some r.last
   pub count : RightIn 14 (r.last - r.first + 1) (columns 26 14 line)
   pub feed : drop 40 line ≡ ascii "\n"
 

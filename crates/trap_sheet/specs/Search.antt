@@ -1,5 +1,5 @@
 -- What the functions below the call promise: the set bits of bitmaps and their runs, and the next bit. Assumes nothing.
-use Rattle.std.specs.Prelude.{ℕ, zero, suc, ◌+◌, ◌*◌, ◌≤◌, ◌<◌, ◌≡◌, Bool, true, not, ◌&&◌, eqb, length, get_or, take, drop}
+use Rattle.std.specs.Prelude.{ℕ, zero, suc, ◌+◌, ◌-◌, ◌*◌, ◌≤◌, ◌<◌, ◌≡◌, Bool, true, not, ◌&&◌, eqb, length, get_or, take, drop}
 use mathlib.Core.List.{List, ◌++◌, flat_map}
 use Rattle.structs.specs.Bitmap.{bit_at}
 use Rattle.trap_sheet.specs.Runs.{Run, count_of, runs_of, shifted_by}
@@ -9,19 +9,27 @@ use Rattle.trap_sheet.specs.Sheet.{run_line}
 abbrev pub bit_count : List ℕ → ℕ
 bit_count xs = count_of (bit_at xs) 0 (8 * length xs)
 
--- the runs of set bits, bit 0 being item `base`, and their lines
+-- the runs of set bits from bit n on, bit 0 being item `base`
+abbrev pub runs_from : ℕ → List ℕ → ℕ → List Run
+runs_from base xs n = shifted_by base (runs_of (bit_at xs) n (8 * length xs - n))
+
+-- the lines of runs
+abbrev pub run_lines : List ℕ → List Run → List ℕ
+run_lines name rs = flat_map (run_line name) rs
+
+-- the runs of all set bits, and their lines
 abbrev pub bit_runs : ℕ → List ℕ → List Run
 bit_runs base xs = shifted_by base (runs_of (bit_at xs) 0 (8 * length xs))
 
 abbrev pub bit_lines : List ℕ → ℕ → List ℕ → List ℕ
-bit_lines name base xs = flat_map (run_line name) (bit_runs base xs)
+bit_lines name base xs = run_lines name (bit_runs base xs)
 
 -- the runs of one access to MSRs, and their lines: in its half of the MSR frame the low MSRs come before the high ones
 abbrev pub access_runs : List ℕ → List Run
 access_runs half = bit_runs 0 (take 1024 half) ++ bit_runs 0xC000_0000 (drop 1024 half)
 
 abbrev pub access_lines : List ℕ → List ℕ → List ℕ
-access_lines name half = flat_map (run_line name) (access_runs half)
+access_lines name half = run_lines name (access_runs half)
 
 -- the k bytes from byte i on are all x
 unfoldable pub all_are : List ℕ → ℕ → ℕ → ℕ → Bool

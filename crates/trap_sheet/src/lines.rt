@@ -1,50 +1,59 @@
 // The lines of the sheet: 40 columns and a line feed.
-ghost use Rattle.std.specs.Prelude.{◌≡◌, ◌+◌, ◌≤◌, ◌<◌, ◌^◌, length};
-ghost use Rattle.text.specs.Put.{put_at};
+ghost use Rattle.text.specs.Writing.{Room, Puts};
 ghost use Rattle.trap_sheet.specs.Sheet.{item_text, number_text, total_line, run_line};
+ghost use Rattle.trap_sheet.specs.Search.{run_lines};
+ghost use Rattle.trap_sheet.specs.Left.{run_of, left};
 
+use crate::runs::{Run, Runs};
+use text::writer::Writer;
 use text::{decimal, hex};
 
-// Puts an item in 8 hexadecimal digits after two blanks, and answers the place after it.
-fn put_item(n: u32, output: &mut [u8], at: usize) -> usize
-    requires { at + length (item_text n) ≤ length output.old }
-    ensures value { result ≡ at + length (item_text n) }
-    ensures output_after { output.new ≡ put_at output.old at (item_text n) }
+// An item in 8 hexadecimal digits after two blanks.
+fn put_item(n: u32, output: &mut Writer)
+    requires { Room (item_text n) output.old }
+    ensures { Puts (item_text n) output.old output.new }
 {
-    let digits = text::put(output, at, b"  ");
-    text::put(output, digits, &hex::digits(n))
+    output.put(b"  ");
+    output.put(&hex::digits(n));
 }
 
-// Puts the last columns, a number right in 14 after two blanks, and answers the place after them.
-fn put_number(n: u64, output: &mut [u8], at: usize) -> usize
-    requires { at + length (number_text n) ≤ length output.old }
-    ensures value { result ≡ at + length (number_text n) }
-    ensures output_after { output.new ≡ put_at output.old at (number_text n) }
+// The last columns: a number right in 14 after two blanks.
+fn put_number(n: u64, output: &mut Writer)
+    requires { Room (number_text n) output.old }
+    ensures { Puts (number_text n) output.old output.new }
 {
-    let columns = text::put(output, at, b"  ");
-    let feed = text::put(output, columns, &decimal::columns(n));
-    text::put(output, feed, b"\n")
+    output.put(b"  ");
+    output.put(&decimal::columns(n));
+    output.put(b"\n");
 }
 
-// Puts the total line of a kind, and answers the place after it.
-pub fn put_total(kind: &[u8], n: u32, output: &mut [u8], at: usize) -> usize
-    requires { at + length (total_line kind.now n) ≤ length output.old }
-    ensures value { result ≡ at + length (total_line kind.now n) }
-    ensures output_after { output.new ≡ put_at output.old at (total_line kind.now n) }
+// The total line of a kind.
+pub fn put_total(kind: &[u8], n: u32, output: &mut Writer)
+    requires { Room (total_line kind.now n) output.old }
+    ensures { Puts (total_line kind.now n) output.old output.new }
 {
-    let blanks = text::put(output, at, kind);
-    let number = text::put(output, blanks, &[b' '; 20]);
-    put_number(n as u64, output, number)
+    output.put(kind);
+    output.put(&[b' '; 20]);
+    put_number(n as u64, output);
 }
 
-// Puts the line of a run, and answers the place after it.
-pub fn put_run(kind: &[u8], first: u32, last: u32, output: &mut [u8], at: usize) -> usize
-    requires { (first ≤ last) × (at + length (run_line kind.now (record { first = first; last = last })) ≤ length output.old) }
-    ensures value { result ≡ at + length (run_line kind.now (record { first = first; last = last })) }
-    ensures output_after { output.new ≡ put_at output.old at (run_line kind.now (record { first = first; last = last })) }
+// The line of a run.
+fn put_run(kind: &[u8], run: Run, output: &mut Writer)
+    requires { Room (run_line kind.now (run_of run)) output.old }
+    ensures { Puts (run_line kind.now (run_of run)) output.old output.new }
 {
-    let low = text::put(output, at, kind);
-    let high = put_item(first, output, low);
-    let number = put_item(last, output, high);
-    put_number((last - first) as u64 + 1, output, number)
+    output.put(kind);
+    put_item(run.first, output);
+    put_item(run.last, output);
+    put_number((run.last - run.first) as u64 + 1, output);
+}
+
+// The lines of runs.
+pub fn put_runs(kind: &[u8], runs: Runs, output: &mut Writer)
+    requires { Room (run_lines kind.now (left runs)) output.old }
+    ensures { Puts (run_lines kind.now (left runs.entry)) output.old output.new }
+{
+    for run in runs {
+        put_run(kind, run, output);
+    }
 }

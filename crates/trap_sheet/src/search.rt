@@ -43,12 +43,14 @@ fn passed(bits: &[u8], n: usize, v: bool) -> usize
 }
 
 // The first bit from `from` on that is v, or one past the last.
+// One past the last, not None: a run that reaches the end stops there.
 fn next_bit(bits: &[u8], from: usize, v: bool) -> usize
     requires { (from ≤ 8 * length bits.now) × (length bits.now ≤ 4096) }
     ensures { Next bits.now v from result }
 {
     let end = 8 * bits.len();
     let mut n = from;
+    // A step is a bit, a byte or eight bytes, as `passed` finds them, so no range of bits fits.
     while n < end {
         let step = passed(bits, n, v);
         if step == 0 {
@@ -59,7 +61,7 @@ fn next_bit(bits: &[u8], from: usize, v: bool) -> usize
     n
 }
 
-// The first bit from `from` on that is v in two slices, the one behind the other, or one past the last. A run of ports may start in I/O bitmap A and end in B.
+// The first bit from `from` on that is v in two slices, the one behind the other, or one past the last, as `next_bit`. A run of ports may start in I/O bitmap A and end in B.
 pub fn next_of(low: &[u8], high: &[u8], from: usize, v: bool) -> usize
     requires { (from ≤ 8 * (length low.now + length high.now)) × (length low.now ≤ 4096) × (length high.now ≤ 4096) }
     ensures { Next (low.now ++ high.now) v from result }

@@ -1,18 +1,18 @@
 -- What is printed for an input that has the frames' length, and for any other. Assumes nothing.
-use Prim.Native.Nat.{ℕ, ◌+◌, ◌-◌}
-use mathlib.Core.Path.{◌≡◌, ap, ◌∙◌}
+use Prim.Native.Nat.{ℕ, ◌+◌, ◌≤◌}
+use mathlib.Core.Path.{◌≡◌, ap}
 use mathlib.Core.List.{List, ◌++◌}
 use mathlib.Core.Logic.{◌≢◌}
 use native.Mathlib.Omega.{arith}
 use borrow.Author.Tests.{eq-eqb, ne_eqb}
 use lib.ListN.{length, take, drop, length-take, length-drop}
-use Rattle.structs.proofs.BitmapLaws.{part_is_drop}
+use Rattle.std.proofs.Common.{sym}
+use lib.Seq.{drop-drop}
 use Rattle.text.specs.Ascii.{ascii}
 use Rattle.text.specs.Put.{put_at}
 use Rattle.text.proofs.PutLaws.{put_first}
-use Rattle.trap_sheet.specs.Sheet.{TrapSheet, trap_sheet}
+use Rattle.trap_sheet.specs.Sheet.{sheet_of}
 use Rattle.trap_sheet.proofs.LineLaws.{sheet_most}
-use Rattle.trap_sheet.proofs.SheetLaws.{sheet_accepted}
 use Rattle.trap_sheet_io.specs.Printed.{printed_for}
 
 -- r bytes of d₁ are the text, and the others are those of d
@@ -23,18 +23,20 @@ pub printed_refused : (s d d₁ : List ℕ) (r : ℕ) → length s ≢ 12288 →
 unfolding printed_for
 printed_refused s d d₁ r h l p = rw (ne_eqb (length s) 12288 h) (put_first d d₁ (ascii "refused 2\n") r l p)
 
--- the frames as slices of the input
-pub printed_sheet : (s d d₁ : List ℕ) (m n r : ℕ) → length s ≡ 12288 → length d ≡ 2015355
-    → record { refusal = n; output = d₁; size = r } ≡ trap_sheet (take 4096 s) (take 4096 (drop 4096 s)) (take (length s - 8192) (drop 8192 s)) d m
-    → Printed (printed_for s) d d₁ r
-unfolding printed_for
-printed_sheet s d d₁ m n r h l e =
-    let a = take 4096 s in
-    let b = take 4096 (drop 4096 s) in
-    let msr = drop 8192 s in
-    let la : length a ≡ 4096 = rw (length-take 4096 s) (omega arith) in
-    let lb : length b ≡ 4096 = rw (length-take 4096 (drop 4096 s), length-drop 4096 s) (omega arith) in
-    let lm : length msr ≡ 4096 = rw (length-drop 8192 s) (omega arith) in
-    let f = e ∙ ap (λ (x : List ℕ). trap_sheet a b x d m) (part_is_drop s 8192) ∙ sheet_accepted a b msr la lb lm d m (omega (arith, sheet_most a b msr)) in
-    let k = ap (λ (x : TrapSheet). x.size) f in
-    rw (eq-eqb (length s) 12288 h) (k, rw k (ap (λ (x : TrapSheet). x.output) f))
+-- the frames as parts of the input: they have their lengths, the output has room, and their sheet is what is printed
+module _ (s d a b msr : List ℕ) (h : length s ≡ 12288) (l : length d ≡ 2015355) (p : a ≡ take 4096 s) (q : b ≡ take 4096 (drop 4096 s)) (r : msr ≡ drop 4096 (drop 4096 s)) where
+  pub a_length : length a ≡ 4096
+  a_length = rw (p, length-take 4096 s) (omega arith)
+
+  pub b_length : length b ≡ 4096
+  b_length = rw (q, length-take 4096 (drop 4096 s), length-drop 4096 s) (omega arith)
+
+  pub msr_length : length msr ≡ 4096
+  msr_length = rw (r, length-drop 4096 (drop 4096 s), length-drop 4096 s) (omega arith)
+
+  pub room : length (sheet_of a b msr) ≤ length d
+  room = omega (arith, sheet_most a b msr)
+
+  pub printed_sheet : printed_for s ≡ sheet_of a b msr
+  unfolding printed_for
+  printed_sheet = rw (eq-eqb (length s) 12288 h, p, q, r) (ap (sheet_of (take 4096 s) (take 4096 (drop 4096 s))) (sym (drop-drop 4096 4096 s)))

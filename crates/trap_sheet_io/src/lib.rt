@@ -7,6 +7,7 @@ ghost use Rattle.std.specs.Prelude.{◌≡◌, ◌++◌, length, drop};
 ghost use Rattle.trap_sheet_io.specs.Printed.{printed_for};
 
 use structs::FRAME_SIZE;
+use text::writer::Writer;
 
 // The input: the frames A, B and MSR, one behind the other.
 pub const FRAMES: usize = 3 * FRAME_SIZE;
@@ -20,12 +21,11 @@ pub fn printed(input: &[u8], output: &mut [u8; ROOM]) -> usize
     ensures text { output.new ≡ printed_for input.now ++ drop result output.old }
 {
     if input.len() != FRAMES {
-        return text::put(output, 0, b"refused 2\n");
+        let mut refusal = Writer::new(output);
+        refusal.put(b"refused 2\n");
+        return refusal.written();
     }
-    let a = &input[..FRAME_SIZE];
-    let b = &input[FRAME_SIZE..2 * FRAME_SIZE];
-    let msr = &input[2 * FRAME_SIZE..];
-    let mut length: u64 = 0;
-    trap_sheet::trap_sheet(a, b, msr, output, &mut length);
-    length as usize
+    let (a, rest) = input.split_at(FRAME_SIZE);
+    let (b, msr) = rest.split_at(FRAME_SIZE);
+    trap_sheet::trap_sheet(a, b, msr, output).unwrap()
 }

@@ -83,77 +83,13 @@ module _ (accesses : List Access) (frame : List ℕ) (msr v : ℕ) where
   unfolding msr_call edit_msrs
   msr_never = cond_all (λ (c : MsrEdit). c.refusal ≢ 25) (ltb 1 v) _ _ (λ _. omega arith) (λ _. msr_other (length frame) msr (msr + 1))
 
-  -- the number is the same whichever the accesses are
-  same_number : (msr_call accesses frame msr v).refusal ≡ (msr_call [] frame msr v).refusal
-  unfolding msr_call edit_msrs
-  same_number = go (ltb 1 v)
-    where
-      go : (t : Bool) → (cond t (record { refusal = 2; frame = frame }) (edit_msrs frame msr 1 accesses (eqb v 1))).refusal ≡ (cond t (record { refusal = 2; frame = frame }) (edit_msrs frame msr 1 [] (eqb v 1))).refusal
-      go true = refl
-      go false = refl
-
-  accepted_edit : (msr_call accesses frame msr v).refusal ≡ 0 → msr_call accesses frame msr v ≡ edit_msrs frame msr 1 accesses (eqb v 1)
-  unfolding msr_call
-  accepted_edit = cond_all (λ (c : MsrEdit). c.refusal ≡ 0 → c ≡ edit_msrs frame msr 1 accesses (eqb v 1)) (ltb 1 v) _ _ (λ _ z. absurd (omega arith)) (λ _ _. refl)
-
 pub msr_refusing : (accesses : List Access) (msr v : ℕ) → Refusing (msr_on accesses msr v)
 msr_refusing accesses msr v = record { keeps = λ f x. msr_keeps accesses f msr v; other = λ f x. msr_never accesses f msr v }
 
--- an edit of no access leaves the frame as it is
-pub no_access : (frame : List ℕ) (msr v : ℕ) → (msr_call [] frame msr v).frame ≡ frame
-unfolding msr_call edit_msrs set_msrs
-no_access frame msr v =
-    cond_all (λ (c : MsrEdit). c.frame ≡ frame) (ltb 1 v) _ _ (λ _. refl)
-    (λ _. cond_all (λ (l : List ℕ). l ≡ frame) (eqb (msr_refusal (length frame) msr (msr + 1)) 0) _ _ (λ _. refl) (λ _. refl))
-
--- the frame copied
-pub frame_shown : (frame shown : List ℕ) (msr v : ℕ) {n : ℕ} → n ≡ (msr_call [] frame msr v).refusal → same_length frame shown ≡ true → n ≡ 0 → {copy : List ℕ} → copy ≡ frame
-    → outcome 0 copy tt ≡ try_msr [] msr v frame shown tt
-frame_shown frame shown msr v asked same z e =
-    (λ i. outcome ((sym z ∙ asked) i) ((e ∙ sym (no_access frame msr v)) i) tt) ∙ tried_0 same_length (msr_on [] msr v) frame shown tt asked same z
-
-zero_of : (k : ℕ) (a : Bool) → trial_number k a ≡ 0 → k ≡ 0
-unfolding trial_number
-zero_of k a = go (eqb k 2) a
-  where
-    go : (t a : Bool) → cond t 2 (cond a k 25) ≡ 0 → k ≡ 0
-    go true a z = absurd (omega arith)
-    go false true z = z
-    go false false z = absurd (omega arith)
-
--- ---- the edit of these accesses on what the edit of none showed
-
-module _ (accesses : List Access) (msr v : ℕ) (frame shown : List ℕ) {n : ℕ} {copy : List ℕ} (h : outcome n copy tt ≡ try_msr [] msr v frame shown tt) where
-  pub edit_refused : n ≢ 0 → outcome n copy tt ≡ try_msr accesses msr v frame shown tt
-  unfolding trial_of
-  edit_refused o =
-      subst (λ (k : ℕ). outcome n copy tt ≡ cond (eqb k 0) (msr_on accesses msr v frame tt) (outcome k shown tt))
-      (ap (λ (k : ℕ). trial_number k (same_length frame shown)) (sym (same_number accesses frame msr v)))
-      (go (eqb number 0) refl h)
-    where
-      number : ℕ
-      number = trial_number (msr_call [] frame msr v).refusal (same_length frame shown)
-
-      go : (t : Bool) → eqb number 0 ≡ t → outcome n copy tt ≡ cond t (msr_on [] msr v frame tt) (outcome number shown tt)
-          → outcome n copy tt ≡ cond t (msr_on accesses msr v frame tt) (outcome number shown tt)
-      go true e g = absurd (o (ap (λ (c : Outcome (List ℕ) (Unit {0})). c.refusal) g ∙ zero_of _ _ (eqb-true number 0 e)))
-      go false e g = g
-
-  pub edit_shown : n ≡ 0 → {r : ℕ} {after : List ℕ} → record { refusal = r; frame = after } ≡ edit_msrs copy msr 1 accesses (eqb v 1)
-      → outcome r after tt ≡ try_msr accesses msr v frame shown tt
-  unfolding trial_of
-  edit_shown z {r} {after} done =
-      subst (λ (k : ℕ). outcome r after tt ≡ cond (eqb k 0) (msr_on accesses msr v frame tt) (outcome k shown tt))
-      (ap (λ (k : ℕ). trial_number k (same_length frame shown)) (sym (same_number accesses frame msr v)))
-      (go (eqb number 0) refl h)
-    where
-      number : ℕ
-      number = trial_number (msr_call [] frame msr v).refusal (same_length frame shown)
-
-      go : (t : Bool) → eqb number 0 ≡ t → outcome n copy tt ≡ cond t (msr_on [] msr v frame tt) (outcome number shown tt)
-          → outcome r after tt ≡ cond t (msr_on accesses msr v frame tt) (outcome number shown tt)
-      go true e g =
-          let copied : copy ≡ frame = ap (λ (c : Outcome (List ℕ) (Unit {0})). c.left) g ∙ no_access frame msr v in
-          let none : (msr_call accesses frame msr v).refusal ≡ 0 = same_number accesses frame msr v ∙ zero_of _ _ (eqb-true number 0 e) in
-          ap (λ (c : MsrEdit). outcome c.refusal c.frame tt) (done ∙ ap (λ (f : List ℕ). edit_msrs f msr 1 accesses (eqb v 1)) copied ∙ sym (accepted_edit accesses frame msr v none))
-      go false e g = absurd (eqb-false number 0 e (sym (ap (λ (c : Outcome (List ℕ) (Unit {0})). c.refusal) g) ∙ z))
+-- the edit on a copy of the frame
+pub msr_shown : (accesses : List Access) (frame shown : List ℕ) (msr v : ℕ) → v ≤ 1 → {n : ℕ} → n ≡ msr_refusal (length frame) msr (msr + 1) → same_length frame shown ≡ true → n ≡ 0
+    → {copy : List ℕ} → copy ≡ frame → {r : ℕ} {after : List ℕ} → record { refusal = r; frame = after } ≡ edit_msrs copy msr 1 accesses (eqb v 1)
+    → outcome r after tt ≡ try_msr accesses msr v frame shown tt
+msr_shown accesses frame shown msr v below asked same z e done =
+    ap (λ (c : MsrEdit). outcome c.refusal c.frame tt) (done ∙ ap (λ (f : List ℕ). edit_msrs f msr 1 accesses (eqb v 1)) e ∙ sym (msr_edit accesses frame msr v below))
+    ∙ tried_0 same_length (msr_on accesses msr v) frame shown tt (msr_number accesses frame msr v below asked) same z

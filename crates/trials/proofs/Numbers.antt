@@ -10,14 +10,14 @@ use Rattle.bits.proofs.Tells.{cond_all}
 use Rattle.structs.specs.Frames.{port_refusal, msr_refusal}
 use Rattle.definitions.specs.VmxExitReason as VmxExitReason
 use Rattle.vmcs.specs.Efer.{is_long_mode, lacks_ia32e, update_efer}
-use Rattle.vmcs.specs.declared.controls.EferUpdate.{EferUpdate}
+use Rattle.vmcs.specs.Efer.{EferUpdate}
 use Rattle.vmcs.specs.declared.controls.Pair.{Pair}
 use Rattle.vcpu_session.specs.Phase as Phase
 use Rattle.vcpu_session.specs.Session.{LAST_ENTRY, is_unlawful, Lawful}
 use Rattle.vcpu_session.proofs.LawfulLaws.{of_lawful}
 use Rattle.vcpu_session.specs.declared.Session.{Session}
 use Rattle.vcpu_events.specs.Entry.{entry}
-use Rattle.vcpu_events.specs.declared.Entered.{Entered}
+use Rattle.vcpu_events.specs.Entry.{Entered}
 use Rattle.vcpu_exit.specs.Reading.{failed, turns_paging_on, past_end, reason_of}
 use Rattle.vcpu_exit.specs.Refusal.{unknown_reason, owned_bits_differ, no_interrupt, other_access, other_xcr, refused_xcr0, efer_refusal, reason_refusal, exit_refusal, report_refusal}
 use Rattle.vcpu_exit.specs.declared.Report.{Report}

@@ -1,13 +1,15 @@
 -- A trial on a record: its ends, and that a refused report and a refused entry leave everything as it was. Assumes nothing.
 use mathlib.Core.Path.{◌≡◌, refl, sym, ap, ◌∙◌, subst}
-use mathlib.Core.Bool.{Bool, true, false, cond, false≢true}
+use mathlib.Core.Bool.{Bool, true, false, false≢true}
 use mathlib.Core.List.{List}
 use mathlib.Core.Logic.{◌≢◌, ◌⊎◌, inl, inr}
 use Prim.Native.Nat.{ℕ}
 use native.Mathlib.Omega.{arith}
 use lib.Dec.{eqb}
 use lib.ListN.{length}
-use borrow.Author.Tests.{eq-eqb, ne_eqb}
+use borrow.Author.Tests.{eq-eqb, eqb-true}
+use Rattle.std.proofs.Common.{Option, None, Some}
+use Rattle.std.specs.Prelude.{unwrap_or}
 use Rattle.bits.specs.LittleEndian.{Below}
 use Rattle.bits.proofs.Tells.{cond_all}
 use Rattle.vcpu_session.specs.Phase as Phase
@@ -25,7 +27,7 @@ use Rattle.call_specs.specs.Records.{EntryCall, entry_call, EntryCalled}
 use Rattle.call_specs.specs.ReportCall.{ReportCall, report_answer, report_accepts, report_call, ReportCalled}
 use Rattle.call_specs.proofs.ReportCalls.{report_no_record, report_stays, is_record, report_early, report_number, report_done}
 use Rattle.trials.specs.Trial.{outcome}
-use Rattle.trials.specs.Trials.{same_length, report_on, entry_on, try_report, try_entry, ReportTried, ReportBody, EntryTried}
+use Rattle.trials.specs.Trials.{same_length, report_on, entry_on, try_report, try_entry, ReportTried, ReportBody, EntryTried, alike_of}
 use Rattle.trials.proofs.TrialLaws.{Refusing, tried_2, tried_25, tried_other, tried_0}
 use Rattle.trials.proofs.Numbers.{entry_other, report_other, report_held}
 
@@ -99,20 +101,20 @@ report_refusing block =
 
 -- ---- the one body of the report and of its trial: the record that decides is the first in a trial, else the one that is given
 
-module _ (t : Bool) (first bytes block words : List ℕ) {d : List ℕ} (e : d ≡ cond t first bytes) where
+module _ (f : Option (List ℕ)) (bytes block words : List ℕ) {d : List ℕ} (e : d ≡ unwrap_or f bytes) where
   -- refused: in a trial either by 2, or the lengths are the same
-  on_refused : {n : ℕ} → n ≡ (report_call d block words).refusal → n ≢ 0 → (t ≡ true → (n ≡ 2) ⊎ ((n ≢ 2) × (length bytes ≡ length first))) → ReportBody t first bytes block words n bytes words
-  on_refused {n} asked other which = go t e which
+  on_refused : {n : ℕ} → n ≡ (report_call d block words).refusal → n ≢ 0 → (n ≡ 2) ⊎ ((n ≢ 2) × (alike_of f bytes ≡ true)) → ReportBody f bytes block words n bytes words
+  on_refused {n} asked other which = go f e which
     where
-      go : (t : Bool) → d ≡ cond t first bytes → (t ≡ true → (n ≡ 2) ⊎ ((n ≢ 2) × (length bytes ≡ length first))) → ReportBody t first bytes block words n bytes words
-      go true e which =
+      go : (f : Option (List ℕ)) → d ≡ unwrap_or f bytes → (n ≡ 2) ⊎ ((n ≢ 2) × (alike_of f bytes ≡ true)) → ReportBody f bytes block words n bytes words
+      go (Some first) e which =
           let of : n ≡ (report_call first block words).refusal = asked ∙ ap (λ (l : List ℕ). (report_call l block words).refusal) e in
           report_untouched block first words
-          (elim (which refl) [
+          (elim which [
             | inl two ↦ tried_2 same_length (report_on block) first bytes words of two
-            | inr h ↦ tried_other same_length (report_on block) first bytes words of h.0 (eq-eqb _ _ h.1) other
+            | inr h ↦ tried_other same_length (report_on block) first bytes words of h.0 h.1 other
           ]) other
-      go false e which =
+      go None e which =
           let of : n ≡ (report_call bytes block words).refusal = asked ∙ ap (λ (l : List ℕ). (report_call l block words).refusal) e in
           record {
             answer = ap (λ (k : ℕ). report_answer k bytes words) of ∙ sym (report_stays bytes block refl words (λ z. other (of ∙ z)));
@@ -120,44 +122,44 @@ module _ (t : Bool) (first bytes block words : List ℕ) {d : List ℕ} (e : d �
           }
 
   module _ {r : Bool} (a : r ≡ report_accepts d block) where
-    pub on_bytes : r ≡ false → ReportBody t first bytes block words 2 bytes words
-    on_bytes f = on_refused (ap (λ (c : ReportCall). c.refusal) (report_no_record d block a words f).answer) (omega arith) (λ _. inl refl)
+    pub on_bytes : r ≡ false → ReportBody f bytes block words 2 bytes words
+    on_bytes none = on_refused (ap (λ (c : ReportCall). c.refusal) (report_no_record d block a words none).answer) (omega arith) (inl refl)
 
     module _ (ok : r ≡ true) where
       held : report_refusal (session_of d) (report_of block) ≢ 2
       held = report_held (session_of d) (report_of block) (session_lawful d (is_record d block a ok))
 
-      pub on_length : t ≡ true → (length bytes ≡ length first → ⊥) → ReportBody t first bytes block words 25 bytes words
-      on_length = go t e
+      pub on_length : alike_of f bytes ≡ false → ReportBody f bytes block words 25 bytes words
+      on_length = go f e
         where
-          go : (t : Bool) → d ≡ cond t first bytes → t ≡ true → (length bytes ≡ length first → ⊥) → ReportBody t first bytes block words 25 bytes words
-          go true e _ differ =
+          go : (f : Option (List ℕ)) → d ≡ unwrap_or f bytes → alike_of f bytes ≡ false → ReportBody f bytes block words 25 bytes words
+          go (Some first) e differ =
               let of : report_refusal (session_of d) (report_of block) ≡ (report_call first block words).refusal =
               sym (report_number d block a ok words) ∙ ap (λ (l : List ℕ). (report_call l block words).refusal) e in
-              report_untouched block first words (tried_25 same_length (report_on block) first bytes words of held (ne_eqb _ _ differ)) (omega arith)
-          go false e f differ = absurd (false≢true f)
+              report_untouched block first words (tried_25 same_length (report_on block) first bytes words of held differ) (omega arith)
+          go None e differ = absurd (false≢true (sym differ))
 
-      module _ (same : t ≡ true → length bytes ≡ length first) where
-        pub on_phase : ((session_of d).progress.phase ≡ Phase.RUNNING → ⊥) → ReportBody t first bytes block words 1 bytes words
+      module _ (same : alike_of f bytes ≡ true) where
+        pub on_phase : ((session_of d).progress.phase ≡ Phase.RUNNING → ⊥) → ReportBody f bytes block words 1 bytes words
         on_phase other =
-            on_refused (ap (λ (c : ReportCall). c.refusal) (report_early d block a ok words other).answer) (omega arith) (λ y. inr (omega arith, same y))
+            on_refused (ap (λ (c : ReportCall). c.refusal) (report_early d block a ok words other).answer) (omega arith) (inr (omega arith, same))
 
         module _ {x : Report} (given : x ≡ report_of block) {n : ℕ} (asked : n ≡ report_refusal (session_of d) x) where
           of_d : n ≡ (report_call d block words).refusal
           of_d = asked ∙ ap (report_refusal (session_of d)) given ∙ sym (report_number d block a ok words)
 
-          pub on_own : (n ≡ 0 → ⊥) → ReportBody t first bytes block words n bytes words
-          on_own other = on_refused of_d other (λ y. inr (λ z. held (sym (ap (report_refusal (session_of d)) given) ∙ sym asked ∙ z), same y))
+          pub on_own : (n ≡ 0 → ⊥) → ReportBody f bytes block words n bytes words
+          on_own other = on_refused of_d other (inr (λ z. held (sym (ap (report_refusal (session_of d)) given) ∙ sym asked ∙ z), same))
 
-          pub on_done : n ≡ 0 → {copy after wordsAfter : List ℕ} {w : AxVCpuExitReason} → copy ≡ cond t first bytes → Below 256 after
+          pub on_done : n ≡ 0 → {copy after wordsAfter : List ℕ} {w : AxVCpuExitReason} → copy ≡ unwrap_or f bytes → Below 256 after
               → w ≡ (accepted (session_of copy) x).answer → Holds after (accepted (session_of copy) x).session → wordsAfter ≡ answer_words w
-              → ReportBody t first bytes block words 0 after wordsAfter
+              → ReportBody f bytes block words 0 after wordsAfter
           on_done none {copy} {after} {wordsAfter} {w} copied below p h q =
               let c : copy ≡ d = copied ∙ sym e in
-              go t e same
+              go f e same
               (report_done d block a ok given below words (sym of_d ∙ none) (p ∙ ap (λ (l : List ℕ). (accepted (session_of l) x).answer) c)
               (subst (λ (l : List ℕ). Holds after (accepted (session_of l) x).session) c h) q)
             where
-              go : (t : Bool) → d ≡ cond t first bytes → (t ≡ true → length bytes ≡ length first) → ReportCalled d block words 0 after wordsAfter → ReportBody t first bytes block words 0 after wordsAfter
-              go true e same h = report_shown block first words (of_d ∙ ap (λ (l : List ℕ). (report_call l block words).refusal) e) none (same refl) e h
-              go false e same h = subst (λ (l : List ℕ). ReportCalled l block words 0 after wordsAfter) e h
+              go : (f : Option (List ℕ)) → d ≡ unwrap_or f bytes → alike_of f bytes ≡ true → ReportCalled d block words 0 after wordsAfter → ReportBody f bytes block words 0 after wordsAfter
+              go (Some first) e same h = report_shown block first words (of_d ∙ ap (λ (l : List ℕ). (report_call l block words).refusal) e) none (eqb-true _ _ same) e h
+              go None e same h = subst (λ (l : List ℕ). ReportCalled l block words 0 after wordsAfter) e h

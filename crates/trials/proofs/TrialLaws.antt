@@ -9,6 +9,9 @@ use lib.Dec.{eqb}
 use lib.ListN.{length, take, drop}
 use lib.Seq.{take-length, drop-length}
 use borrow.Author.Tests.{eqb-true, eqb-false, eq-eqb, ne_eqb}
+use Rattle.definitions.specs.Refusals.{number}
+use Rattle.definitions.specs.declared.refusal.Refusal.{Refusal}
+use Rattle.definitions.proofs.RefusalLaws.{some}
 use Rattle.bits.proofs.Tells.{Tells, cond_all}
 use Rattle.trials.specs.Trial.{Outcome, outcome, trial_number, trial_of}
 use Rattle.trials.specs.Reference.{Trial}
@@ -16,6 +19,16 @@ use Rattle.trials.specs.Reference.{Trial}
 -- a buffer copied over one of its length
 pub copied : (src dst : List ℕ) → length dst ≡ length src → take (length src) src ++ drop (length src) dst ≡ src
 copied src dst e = rw (take-length src, ← e, drop-length dst) (append-nil src)
+
+-- a trial that is not refused: nor is its call, and the buffers are alike
+pub taken : (n : ℕ) (a : Bool) → 0 ≡ trial_number n a → (n ≡ 0) × (a ≡ true)
+unfolding trial_number
+taken n a = go (eqb n 2) a
+  where
+    go : (t a : Bool) → 0 ≡ cond {A = ℕ} t 2 (cond a n 25) → (n ≡ 0) × (a ≡ true)
+    go true a h = absurd (omega arith)
+    go false true h = (sym h, refl)
+    go false false h = absurd (omega arith)
 
 -- a call that, where it is refused, leaves everything as it was, and that has no number 25
 pub record Refusing {B R : Type 0} (call : B → R → Outcome B R) : Type 0 where
@@ -41,6 +54,11 @@ module _ {B R : Type 0} (alike : B → B → Bool) (call : B → R → Outcome B
     pub tried_0 : alike first second ≡ true → n ≡ 0 → call first x ≡ trial_of alike call first second x
     unfolding trial_number trial_of
     tried_0 a z = rw (← asked, a, z)
+
+    -- refused by its own number
+    pub tried_by : (e : Refusal) → number e ≡ trial_number n (alike first second) → outcome (number e) second x ≡ trial_of alike call first second x
+    unfolding trial_of
+    tried_by e h = rw (← asked, ← h, some e)
 
   -- ---- the law
 

@@ -1,5 +1,5 @@
 -- The six trials (document 02, N5): each is the trial of a call by that call's own definition, and says nothing of what the call does. Assumes nothing.
-use Rattle.std.specs.Prelude.{◌≡◌, Bool, true, false, ◌&&◌, List, ℕ, eqb, length}
+use Rattle.std.specs.Prelude.{◌≡◌, Bool, true, false, ◌&&◌, List, ℕ, eqb, length, Option, None, Some}
 use Rattle.structs.specs.Frames.{IOBitmap, frames_of}
 use Rattle.structs.specs.declared.Access.{Access}
 use Rattle.vcpu_events.specs.Entry.{entry}
@@ -59,7 +59,12 @@ pub record EntryTried (stack : ℕ) (bytes shown : List ℕ) (resumed injection 
   pub answer : outcome r shownAfter (resumedAfter, injectionAfter) ≡ try_entry stack bytes shown (resumed, injection)
   pub decodes : r ≡ 0 → decode_of shownAfter ≡ decoded 0 (entry (decode_of bytes).session stack).session
 
--- the one body of the report and of its trial
-abbrev pub ReportBody : Bool → List ℕ → List ℕ → List ℕ → List ℕ → ℕ → List ℕ → List ℕ → Type 0
-ReportBody true first bytes block words r after wordsAfter = ReportTried first bytes block words r after wordsAfter
-ReportBody false first bytes block words r after wordsAfter = ReportCalled bytes block words r after wordsAfter
+-- the one body of the report and of its trial, which has a first record
+abbrev pub ReportBody : Option (List ℕ) → List ℕ → List ℕ → List ℕ → ℕ → List ℕ → List ℕ → Type 0
+ReportBody (Some first) bytes block words r after wordsAfter = ReportTried first bytes block words r after wordsAfter
+ReportBody None bytes block words r after wordsAfter = ReportCalled bytes block words r after wordsAfter
+
+-- what is shown has the length of the first record, if there is one
+abbrev pub alike_of : Option (List ℕ) → List ℕ → Bool
+alike_of (Some first) bytes = eqb (length bytes) (length first)
+alike_of None bytes = true

@@ -3,26 +3,40 @@
 // calls and trials share their bodies, stand here too.
 #![tactic(auto)]
 
-ghost use Rattle.std.specs.Prelude.{◌≡◌, true, cond, [], ℕ, length};
-ghost use Rattle.call_specs.specs.Calls.{reads, writes, both};
+ghost use Rattle.std.specs.Prelude.{◌≡◌, true, ℕ, unwrap_or, option_copied};
+ghost use Rattle.definitions.specs.Refusals.{refusal_of};
 ghost use Rattle.call_specs.specs.Records.{entry_call, EntryCalled};
 ghost use Rattle.call_specs.specs.ReportCall.{report_accepts, ReportCalled};
-ghost use Rattle.trials.specs.Trial.{outcome};
-ghost use Rattle.trials.specs.Trials.{try_ports, try_msr, ReportTried, ReportBody, EntryTried};
+ghost use Rattle.trials.specs.Trial.{outcome, trial_number};
+ghost use Rattle.trials.specs.Trials.{alike_of, try_ports, try_msr, ReportTried, ReportBody, EntryTried};
 
-use definitions::Refusal;
+use definitions::{Refusal, yes_no};
+use record_edits::SessionRecord;
+use structs::Access;
 use vcpu_session::Phase;
+
+// The refusal of a trial, from that of its call: 2, then 25 where the second buffers have other lengths than the first, then the call's others.
+#[tactic(auto, using(definitions::proofs::RefusalLaws::not_bytes), unfolding(crate::specs::Trial::trial_number))]
+fn trial_refusal(call: Result<(), Refusal>, alike: bool) -> Result<(), Refusal>
+    ensures { refusal_of result ≡ trial_number (refusal_of call) alike }
+{
+    match call {
+        Err(Refusal::Bytes) => Err(Refusal::Bytes),
+        _ if alike => call,
+        _ => Err(Refusal::Shown),
+    }
+}
 
 // ---- the report
 
 // The record that decides: the first one in a trial, else the one that the call is given.
-fn given<'a>(first: &'a [u8], bytes: &'a [u8], trial: bool) -> &'a [u8]
-    ensures { result.now ≡ cond trial first.now bytes.now }
+fn given<'a>(first: Option<&'a [u8]>, bytes: &'a [u8]) -> &'a [u8]
+    ensures { result.now ≡ unwrap_or (option_copied first.entry) bytes.now }
 {
-    if trial {
-        return first;
+    match first {
+        Some(record) => record,
+        None => bytes,
     }
-    bytes
 }
 
 // The bytes are a record and a block of a report.
@@ -35,93 +49,104 @@ fn report_accepts(bytes: &[u8], block: &[u8]) -> bool
     session & report
 }
 
-// In a trial, the first record copied to the second buffer.
-fn copy_first(first: &[u8], bytes: &mut [u8], trial: bool)
-    requires { trial ≡ true → length bytes.old ≡ length first.now }
-    ensures { bytes.new ≡ cond trial first.now bytes.old }
+// Of a trial: the second buffer has the first one's length.
+fn alike(first: Option<&[u8]>, bytes: &[u8]) -> bool
+    ensures { result ≡ alike_of (option_copied first.entry) bytes.now }
 {
-    if trial {
-        bytes.copy_from_slice(first);
-        return;
+    match first {
+        Some(record) => bytes.len() == record.len(),
+        None => true,
     }
 }
 
-// A report, or its trial: one body, since the compiler keeps a decoded report in registers only where a single function has all of it. In a trial `bytes` is the second
-// buffer and `first` the record; else `first` is not looked at.
+// In a trial, the first record copied to the second buffer.
+fn copy_first(first: Option<&[u8]>, bytes: &mut [u8])
+    requires { alike_of (option_copied first) bytes.old ≡ true }
+    ensures { bytes.new ≡ unwrap_or (option_copied first.entry) bytes.old }
+{
+    if let Some(record) = first {
+        bytes.copy_from_slice(record);
+    }
+}
+
+// A report, or its trial: one body, since the compiler keeps a decoded report in registers only where a single function has all of it. In a trial `first` is the record
+// and `bytes` the second buffer.
 fn report_on(
-    first: &[u8],
+    first: Option<&[u8]>,
     bytes: &mut [u8],
     block: &[u8],
     answer: &mut [u64; 8],
-    trial: bool,
-) -> u32
-    ensures { ReportBody trial first.now bytes.old block.now answer.old result bytes.new answer.new }
+) -> Result<(), Refusal>
+    ensures { ReportBody (option_copied first.entry) bytes.old block.now answer.old (refusal_of result) bytes.new answer.new }
 {
-    let decides = given(first, &bytes[..], trial);
+    let decides = given(first, &bytes[..]);
     if report_accepts(decides, block) {
-        if trial & (bytes.len() != first.len()) {
-            return Refusal::SHOWN;
+        if !alike(first, &bytes[..]) {
+            return Err(Refusal::Shown);
         }
         // `report_refusal` finds 1 too; here the block is not decoded for it.
         if record::phase_at(decides) != Phase::RUNNING {
-            return Refusal::PHASE;
+            return Err(Refusal::Phase);
         }
         let r = blocks::report::report_at(block);
-        let refusal = report_edits::report_refusal(decides, r);
-        if refusal != 0 {
-            return refusal;
-        }
-        copy_first(first, bytes, trial);
-        let what = report_edits::accept(bytes, r);
-        *answer = vcpu_answers::answer_words(what);
-        0
+        report_edits::report_refusal(decides, r)?;
+        copy_first(first, bytes);
+        let what = report_edits::accept(&mut SessionRecord::new(bytes), r);
+        *answer = what.into();
+        Ok(())
     } else {
-        Refusal::BYTES
+        Err(Refusal::Bytes)
     }
 }
 
 // Takes what an exit reports and answers what the host is to do: refusals 2, 1, 14, 15, 16, 18, 20, 19, 21, 17, 8.
-pub fn exit_report(bytes: &mut [u8], block: &[u8], answer: &mut [u64; 8]) -> u32
-    ensures { ReportCalled bytes.old block.now answer.old result bytes.new answer.new }
+pub fn exit_report(bytes: &mut [u8], block: &[u8], answer: &mut [u64; 8]) -> Result<(), Refusal>
+    ensures { ReportCalled bytes.old block.now answer.old (refusal_of result) bytes.new answer.new }
 {
-    report_on(block, bytes, block, answer, false)
+    report_on(None, bytes, block, answer)
 }
 
 // What vcpu_exit_report would do: refusals 2, 25, then the report's own.
-pub fn try_exit_report(bytes: &[u8], shown: &mut [u8], block: &[u8], answer: &mut [u64; 8]) -> u32
-    ensures { ReportTried bytes.now shown.old block.now answer.old result shown.new answer.new }
+pub fn try_exit_report(
+    bytes: &[u8],
+    shown: &mut [u8],
+    block: &[u8],
+    answer: &mut [u64; 8],
+) -> Result<(), Refusal>
+    ensures { ReportTried bytes.now shown.old block.now answer.old (refusal_of result) shown.new answer.new }
 {
-    report_on(bytes, shown, block, answer, true)
+    report_on(Some(bytes), shown, block, answer)
 }
 
 // ---- the entry
 
 // The number of an entry, whatever the host's stack, or 0.
-fn entry_number(bytes: &[u8]) -> u32
-    ensures { (stack resumed injection : ℕ) → result ≡ (entry_call stack bytes.now resumed injection).refusal }
+fn entry_number(bytes: &[u8]) -> Result<(), Refusal>
+    ensures { (stack resumed injection : ℕ) → refusal_of result ≡ (entry_call stack bytes.now resumed injection).refusal }
 {
     if record::accepts(bytes) {
         session_edits::entry_refusal(bytes)
     } else {
-        Refusal::BYTES
+        Err(Refusal::Bytes)
     }
 }
 
 // A launch or a resume: refusals 2, 1, 22.
-pub fn entry(bytes: &mut [u8], stack: u64, resumed: &mut u8, injection: &mut u8) -> u32
-    ensures { EntryCalled stack bytes.old resumed.old injection.old result bytes.new resumed.new injection.new }
+pub fn entry(
+    bytes: &mut [u8],
+    stack: u64,
+    resumed: &mut u8,
+    injection: &mut u8,
+) -> Result<(), Refusal>
+    ensures { EntryCalled stack bytes.old resumed.old injection.old (refusal_of result) bytes.new resumed.new injection.new }
 {
     if record::accepts(bytes) {
-        let e = session_edits::enter(bytes, stack);
-        if e.refusal != 0 {
-            return e.refusal;
-        }
-        let what = e.injection;
-        *resumed = e.resumed as u8;
-        *injection = vcpu_events::injection_number(what);
-        0
+        let e = session_edits::enter(&mut SessionRecord::new(bytes), stack)?;
+        *resumed = u8::from(e.resumed);
+        *injection = u8::from(e.injection);
+        Ok(())
     } else {
-        Refusal::BYTES
+        Err(Refusal::Bytes)
     }
 }
 
@@ -132,19 +157,10 @@ pub fn try_entry(
     stack: u64,
     resumed: &mut u8,
     injection: &mut u8,
-) -> u32
-    ensures { EntryTried stack bytes.now shown.old resumed.old injection.old result shown.new resumed.new injection.new }
+) -> Result<(), Refusal>
+    ensures { EntryTried stack bytes.now shown.old resumed.old injection.old (refusal_of result) shown.new resumed.new injection.new }
 {
-    let number = entry_number(bytes);
-    if number == Refusal::BYTES {
-        return number;
-    }
-    if shown.len() != bytes.len() {
-        return Refusal::SHOWN;
-    }
-    if number != 0 {
-        return number;
-    }
+    trial_refusal(entry_number(bytes), shown.len() == bytes.len())?;
     shown.copy_from_slice(bytes);
     entry(shown, stack, resumed, injection)
 }
@@ -160,81 +176,32 @@ pub fn try_io_intercept_of_range(
     port_base: u32,
     count: u32,
     intercept: u8,
-) -> u32
-    ensures { outcome result (record { a = shown_a.new; b = shown_b.new }) tt ≡ try_ports port_base count intercept (record { a = a.now; b = b.now }) (record { a = shown_a.old; b = shown_b.old }) tt }
+) -> Result<(), Refusal>
+    ensures { outcome (refusal_of result) (record { a = shown_a.new; b = shown_b.new }) tt ≡ try_ports port_base count intercept (record { a = a.now; b = b.now }) (record { a = shown_a.old; b = shown_b.old }) tt }
 {
-    if 1 < intercept {
-        return Refusal::BYTES;
-    }
-    let number = structs::port_refusal(a.len(), b.len(), port_base, count);
-    if number == Refusal::BYTES {
-        return number;
-    }
-    if shown_a.len() != a.len() {
-        return Refusal::SHOWN;
-    }
-    if shown_b.len() != b.len() {
-        return Refusal::SHOWN;
-    }
-    if number != 0 {
-        return number;
-    }
+    let intercept = yes_no(intercept)?;
+    let call = structs::port_refusal(a.len(), b.len(), port_base, count);
+    let alike = (shown_a.len() == a.len()) & (shown_b.len() == b.len());
+    trial_refusal(call, alike)?;
     shown_a.copy_from_slice(a);
     shown_b.copy_from_slice(b);
-    structs::set_intercept_of_range(shown_a, shown_b, port_base, count, intercept == 1)
+    structs::set_intercept_of_range(shown_a, shown_b, port_base, count, intercept)
 }
 
-// The number of a trial of an edit of one MSR, and, where it is 0, the frame copied: the trial of an edit of no access.
-fn show_frame(frame: &[u8], shown: &mut [u8], msr: u32, intercept: u8) -> u32
-    ensures { outcome result shown.new tt ≡ try_msr [] msr intercept frame.now shown.old tt }
+// What an edit of these accesses to one MSR would do (vcpu_set_read_intercept, vcpu_set_write_intercept, vcpu_set_msr_intercept_of_range): refusals 2, 25, 11.
+pub fn try_msr_intercepts(
+    frame: &[u8],
+    shown: &mut [u8],
+    accesses: &[Access],
+    msr: u32,
+    intercept: u8,
+) -> Result<(), Refusal>
+    ensures { outcome (refusal_of result) shown.new tt ≡ try_msr accesses.now msr intercept frame.now shown.old tt }
 {
-    if 1 < intercept {
-        return Refusal::BYTES;
-    }
+    let intercept = yes_no(intercept)?;
     let from = msr as usize;
-    let number = structs::msr_refusal(frame.len(), from, from + 1);
-    if number == Refusal::BYTES {
-        return number;
-    }
-    if shown.len() != frame.len() {
-        return Refusal::SHOWN;
-    }
-    if number != 0 {
-        return number;
-    }
+    let call = structs::msr_refusal(frame.len(), from, from + 1);
+    trial_refusal(call, shown.len() == frame.len())?;
     shown.copy_from_slice(frame);
-    0
-}
-
-// What vcpu_set_read_intercept would do: refusals 2, 25, 11.
-pub fn try_read_intercept(frame: &[u8], shown: &mut [u8], msr: u32, intercept: u8) -> u32
-    ensures { outcome result shown.new tt ≡ try_msr reads msr intercept frame.now shown.old tt }
-{
-    let number = show_frame(frame, shown, msr, intercept);
-    if number != 0 {
-        return number;
-    }
-    structs::set_read_intercept(shown, msr, intercept == 1)
-}
-
-// What vcpu_set_write_intercept would do: refusals 2, 25, 11.
-pub fn try_write_intercept(frame: &[u8], shown: &mut [u8], msr: u32, intercept: u8) -> u32
-    ensures { outcome result shown.new tt ≡ try_msr writes msr intercept frame.now shown.old tt }
-{
-    let number = show_frame(frame, shown, msr, intercept);
-    if number != 0 {
-        return number;
-    }
-    structs::set_write_intercept(shown, msr, intercept == 1)
-}
-
-// What vcpu_set_msr_intercept_of_range would do: refusals 2, 25, 11.
-pub fn try_msr_intercept_of_range(frame: &[u8], shown: &mut [u8], msr: u32, intercept: u8) -> u32
-    ensures { outcome result shown.new tt ≡ try_msr both msr intercept frame.now shown.old tt }
-{
-    let number = show_frame(frame, shown, msr, intercept);
-    if number != 0 {
-        return number;
-    }
-    structs::set_msr_intercept_of_range(shown, msr, intercept == 1)
+    structs::set_msr_intercepts(shown, accesses, msr, 1, intercept)
 }

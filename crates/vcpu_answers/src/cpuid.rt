@@ -1,8 +1,7 @@
 // CPUID as the guest sees it (`handle_cpuid`).
 // Ported from `handle_cpuid` of x86_vcpu src/vmx/vcpu.rs (Copyright 2025 The Axvisor Team, Apache-2.0). Changed: the host's CPUID words come in as an
-// argument, and the vendor text is read byte by byte.
-ghost use Rattle.std.specs.Prelude.{◌≡◌, [], ◌∷◌};
-ghost use Rattle.bits.specs.LittleEndian.{number_of};
+// argument, and the vendor text is three literals.
+ghost use Rattle.std.specs.Prelude.{◌≡◌};
 ghost use Rattle.vcpu_answers.specs.Cpuid.{vendor_info, feature_info, extended_features, frequency_info, leaf_words, with_words, handle_cpuid};
 
 use regs::GeneralRegisters;
@@ -34,25 +33,16 @@ const EXTENDED_HIDDEN: u32 = EXTENDED_WAITPKG | EXTENDED_LA57;
 
 const TIMER_FREQUENCY_MHZ: u32 = 3_000;
 
-// Four bytes as a number, the least significant first.
-#[tactic(auto, unfolding(bits::specs::LittleEndian::number_of))]
-fn little_endian(b0: u8, b1: u8, b2: u8, b3: u8) -> u32
-    ensures { result ≡ number_of (b0 ∷ b1 ∷ b2 ∷ b3 ∷ []) }
-{
-    b0 as u32 + b1 as u32 * 0x100 + b2 as u32 * 0x1_0000 + b3 as u32 * 0x100_0000
-}
-
-// The highest hypervisor leaf, and the vendor text as three words.
+// The highest hypervisor leaf, and the vendor text, RVMRVMRVMRVM, as three words.
 #[tactic(auto, unfolding(bits::specs::LittleEndian::number_of, crate::specs::Cpuid::vendor_info))]
 fn vendor_info() -> CpuidWords
     ensures { result ≡ vendor_info }
 {
-    let text = *b"RVMRVMRVMRVM";
     CpuidWords {
         eax: LEAF_HYPERVISOR_FEATURE,
-        ebx: little_endian(text[0], text[1], text[2], text[3]),
-        ecx: little_endian(text[4], text[5], text[6], text[7]),
-        edx: little_endian(text[8], text[9], text[10], text[11]),
+        ebx: u32::from_le_bytes(*b"RVMR"),
+        ecx: u32::from_le_bytes(*b"VMRV"),
+        edx: u32::from_le_bytes(*b"MRVM"),
     }
 }
 
@@ -62,9 +52,8 @@ fn feature_info(host: CpuidWords) -> CpuidWords
 {
     CpuidWords {
         eax: host.eax & !FEATURE_MCE,
-        ebx: host.ebx,
         ecx: host.ecx & !FEATURE_VMX | FEATURE_HYPERVISOR,
-        edx: host.edx,
+        ..host
     }
 }
 
@@ -74,14 +63,13 @@ fn extended_features(rcx: u64, host: CpuidWords) -> CpuidWords
     ensures { result ≡ extended_features rcx host }
 {
     if rcx == 0 {
-        return CpuidWords {
-            eax: host.eax,
-            ebx: host.ebx,
+        CpuidWords {
             ecx: host.ecx & !EXTENDED_HIDDEN,
-            edx: host.edx,
-        };
+            ..host
+        }
+    } else {
+        host
     }
-    host
 }
 
 // A frequency where the host gives none.
@@ -90,14 +78,13 @@ fn frequency_info(host: CpuidWords) -> CpuidWords
     ensures { result ≡ frequency_info host }
 {
     if host.eax == 0 {
-        return CpuidWords {
+        CpuidWords {
             eax: TIMER_FREQUENCY_MHZ,
-            ebx: host.ebx,
-            ecx: host.ecx,
-            edx: host.edx,
-        };
+            ..host
+        }
+    } else {
+        host
     }
-    host
 }
 
 // The guest's words for a leaf, of the host's.
@@ -105,27 +92,19 @@ fn frequency_info(host: CpuidWords) -> CpuidWords
 fn leaf_words(leaf: u32, rcx: u64, host: CpuidWords) -> CpuidWords
     ensures { result ≡ leaf_words leaf rcx host }
 {
-    if leaf == LEAF_FEATURE_INFO {
-        return feature_info(host);
-    }
-    if leaf == LEAF_STRUCTURED_EXTENDED_FEATURE_FLAGS_ENUMERATION {
-        return extended_features(rcx, host);
-    }
-    if leaf == EAX_FREQUENCY_INFO {
-        return frequency_info(host);
-    }
-    if leaf == LEAF_HYPERVISOR_INFO {
-        return vendor_info();
-    }
-    if leaf == LEAF_HYPERVISOR_FEATURE {
-        return CpuidWords {
+    match leaf {
+        LEAF_FEATURE_INFO => feature_info(host),
+        LEAF_STRUCTURED_EXTENDED_FEATURE_FLAGS_ENUMERATION => extended_features(rcx, host),
+        EAX_FREQUENCY_INFO => frequency_info(host),
+        LEAF_HYPERVISOR_INFO => vendor_info(),
+        LEAF_HYPERVISOR_FEATURE => CpuidWords {
             eax: 0,
             ebx: 0,
             ecx: 0,
             edx: 0,
-        };
+        },
+        _ => host,
     }
-    host
 }
 
 // The registers with the words in EAX, EBX, ECX and EDX, the high halves zero.
@@ -133,12 +112,13 @@ fn leaf_words(leaf: u32, rcx: u64, host: CpuidWords) -> CpuidWords
 fn with_words(g: GeneralRegisters, words: CpuidWords) -> GeneralRegisters
     ensures { result ≡ with_words g words }
 {
-    let mut next = g;
-    next.rax = words.eax as u64;
-    next.rbx = words.ebx as u64;
-    next.rcx = words.ecx as u64;
-    next.rdx = words.edx as u64;
-    next
+    GeneralRegisters {
+        rax: u64::from(words.eax),
+        rbx: u64::from(words.ebx),
+        rcx: u64::from(words.ecx),
+        rdx: u64::from(words.edx),
+        ..g
+    }
 }
 
 // The registers after CPUID, given the host's words for the same EAX and ECX. The leaf is EAX.
@@ -146,6 +126,5 @@ fn with_words(g: GeneralRegisters, words: CpuidWords) -> GeneralRegisters
 pub fn handle_cpuid(g: GeneralRegisters, host: CpuidWords) -> GeneralRegisters
     ensures { result ≡ handle_cpuid g host }
 {
-    let words = leaf_words(bits::low(g.rax), g.rcx, host);
-    with_words(g, words)
+    with_words(g, leaf_words(bits::low(g.rax), g.rcx, host))
 }

@@ -4,7 +4,7 @@
 #![tactic(auto)]
 
 ghost use Rattle.std.specs.Prelude.{◌≡◌};
-ghost use Rattle.vcpu_answers.specs.Answer.{answer_words, hypercall, interrupt, io_data, is_shutdown, is_width, io_access, io_exit, io_answer, msr_read, msr_write, is_builtin, answer_to, answer_of};
+ghost use Rattle.vcpu_answers.specs.Answer.{answer_words, hypercall, interrupt, io_data, is_shutdown, is_width, io_access, io_exit, io_answer, msr_read, msr_write, answer_to, answer_of};
 
 pub mod cpuid;
 
@@ -71,39 +71,40 @@ pub enum AxVCpuExitReason {
 
 // The number of an answer, then its values; unused words are 0.
 #[tactic(auto, unfolding(crate::specs::Answer::answer_words))]
-pub fn answer_words(answer: AxVCpuExitReason) -> [u64; 8]
-    ensures { result ≡ answer_words answer }
-{
-    match answer {
-        AxVCpuExitReason::Nothing => [0, 0, 0, 0, 0, 0, 0, 0],
-        AxVCpuExitReason::Hypercall {
-            nr,
-            rdi,
-            rsi,
-            rdx,
-            rcx,
-            r8,
-            r9,
-        } => [1, nr, rdi, rsi, rdx, rcx, r8, r9],
-        AxVCpuExitReason::IoRead { port, width } => [2, port as u64, width as u64, 0, 0, 0, 0, 0],
-        AxVCpuExitReason::IoWrite { port, width, data } => [
-            3,
-            port as u64,
-            width as u64,
-            data,
-            0,
-            0,
-            0,
-            0,
-        ],
-        AxVCpuExitReason::SystemDown => [4, 0, 0, 0, 0, 0, 0, 0],
-        AxVCpuExitReason::ExternalInterrupt { vector } => [5, vector as u64, 0, 0, 0, 0, 0, 0],
-        AxVCpuExitReason::SysRegRead { addr } => [6, addr, 0, 0, 0, 0, 0, 0],
-        AxVCpuExitReason::SysRegWrite { addr, value } => [7, addr, value, 0, 0, 0, 0, 0],
-        AxVCpuExitReason::ApicRead { msr } => [8, msr as u64, 0, 0, 0, 0, 0, 0],
-        AxVCpuExitReason::ApicWrite { msr, value } => [9, msr as u64, value, 0, 0, 0, 0, 0],
-        AxVCpuExitReason::Halt => [10, 0, 0, 0, 0, 0, 0, 0],
-        AxVCpuExitReason::FailEntry { reason } => [11, reason, 0, 0, 0, 0, 0, 0],
+impl From<AxVCpuExitReason> for [u64; 8] {
+    ghost from_gives = { λ answer words. words ≡ answer_words answer };
+
+    fn from(answer: AxVCpuExitReason) -> [u64; 8] {
+        match answer {
+            AxVCpuExitReason::Nothing => [0; 8],
+            AxVCpuExitReason::Hypercall {
+                nr,
+                rdi,
+                rsi,
+                rdx,
+                rcx,
+                r8,
+                r9,
+            } => [1, nr, rdi, rsi, rdx, rcx, r8, r9],
+            AxVCpuExitReason::IoRead { port, width } => {
+                [2, u64::from(port), u64::from(width), 0, 0, 0, 0, 0]
+            }
+            AxVCpuExitReason::IoWrite { port, width, data } => {
+                [3, u64::from(port), u64::from(width), data, 0, 0, 0, 0]
+            }
+            AxVCpuExitReason::SystemDown => [4, 0, 0, 0, 0, 0, 0, 0],
+            AxVCpuExitReason::ExternalInterrupt { vector } => {
+                [5, u64::from(vector), 0, 0, 0, 0, 0, 0]
+            }
+            AxVCpuExitReason::SysRegRead { addr } => [6, addr, 0, 0, 0, 0, 0, 0],
+            AxVCpuExitReason::SysRegWrite { addr, value } => [7, addr, value, 0, 0, 0, 0, 0],
+            AxVCpuExitReason::ApicRead { msr } => [8, u64::from(msr), 0, 0, 0, 0, 0, 0],
+            AxVCpuExitReason::ApicWrite { msr, value } => {
+                [9, u64::from(msr), value, 0, 0, 0, 0, 0]
+            }
+            AxVCpuExitReason::Halt => [10, 0, 0, 0, 0, 0, 0, 0],
+            AxVCpuExitReason::FailEntry { reason } => [11, reason, 0, 0, 0, 0, 0, 0],
+        }
     }
 }
 
@@ -137,27 +138,26 @@ fn interrupt(information: u32) -> AxVCpuExitReason
 fn io_data(width: u8, rax: u64) -> u64
     ensures { result ≡ io_data width rax }
 {
-    if width == 1 {
-        return rax % 0x100;
+    match width {
+        1 => rax % 0x100,
+        2 => rax % 0x1_0000,
+        _ => rax % 0x1_0000_0000,
     }
-    if width == 2 {
-        return rax % 0x1_0000;
-    }
-    rax % 0x1_0000_0000
 }
 
 #[tactic(auto, unfolding(crate::specs::Answer::is_shutdown))]
 fn is_shutdown(info: VmxIoExitInfo, rax: u64) -> bool
     ensures { result ≡ is_shutdown info rax }
 {
-    (info.port == QEMU_EXIT_PORT) & (info.access_size == 2) & (rax == QEMU_EXIT_MAGIC)
+    info.port == QEMU_EXIT_PORT && info.access_size == 2 && rax == QEMU_EXIT_MAGIC
 }
 
 #[tactic(auto, unfolding(crate::specs::Answer::is_width))]
 fn is_width(size: u8) -> bool
     ensures { result ≡ is_width size }
 {
-    (size == 1) | (size == 2) | (size == 4)
+    // With `matches!` an exit report takes 520 bytes of stack, above the 512 that the header names.
+    size == 1 || size == 2 || size == 4
 }
 
 // An access of 1, 2 or 4 bytes that is neither a string access nor repeated.
@@ -166,19 +166,18 @@ fn io_access(info: VmxIoExitInfo, rax: u64) -> AxVCpuExitReason
     ensures { result ≡ io_access info rax }
 {
     if info.is_in {
-        return AxVCpuExitReason::IoRead {
+        AxVCpuExitReason::IoRead {
             port: info.port,
             width: info.access_size,
-        };
-    }
-    if is_shutdown(info, rax) {
-        return AxVCpuExitReason::SystemDown;
-    }
-    let data = io_data(info.access_size, rax);
-    AxVCpuExitReason::IoWrite {
-        port: info.port,
-        width: info.access_size,
-        data: data,
+        }
+    } else if is_shutdown(info, rax) {
+        AxVCpuExitReason::SystemDown
+    } else {
+        AxVCpuExitReason::IoWrite {
+            port: info.port,
+            width: info.access_size,
+            data: io_data(info.access_size, rax),
+        }
     }
 }
 
@@ -187,21 +186,18 @@ fn io_access(info: VmxIoExitInfo, rax: u64) -> AxVCpuExitReason
 fn io_exit(info: VmxIoExitInfo, rax: u64) -> AxVCpuExitReason
     ensures { result ≡ io_exit info rax }
 {
-    if info.is_repeat | info.is_string {
-        return AxVCpuExitReason::Halt;
+    if info.is_repeat || info.is_string || !is_width(info.access_size) {
+        AxVCpuExitReason::Halt
+    } else {
+        io_access(info, rax)
     }
-    if is_width(info.access_size) {
-        return io_access(info, rax);
-    }
-    AxVCpuExitReason::Halt
 }
 
 #[tactic(auto, unfolding(crate::specs::Answer::io_answer))]
 fn io_answer(qualification: u64, rax: u64) -> AxVCpuExitReason
     ensures { result ≡ io_answer qualification rax }
 {
-    let info = vmcs::exit_info::io_exit_info(qualification);
-    io_exit(info, rax)
+    io_exit(vmcs::exit_info::io_exit_info(qualification), rax)
 }
 
 // ---- MSRs
@@ -211,11 +207,12 @@ fn msr_read(g: GeneralRegisters) -> AxVCpuExitReason
     ensures { result ≡ msr_read g }
 {
     if vcpu_exit::is_apic(g.rcx) {
-        return AxVCpuExitReason::ApicRead {
+        AxVCpuExitReason::ApicRead {
             msr: bits::low(g.rcx),
-        };
+        }
+    } else {
+        AxVCpuExitReason::SysRegRead { addr: g.rcx }
     }
-    AxVCpuExitReason::SysRegRead { addr: g.rcx }
 }
 
 #[tactic(auto, unfolding(crate::specs::Answer::msr_write))]
@@ -224,55 +221,54 @@ fn msr_write(g: GeneralRegisters) -> AxVCpuExitReason
 {
     let value = vcpu_exit::read_edx_eax(g);
     if vcpu_exit::is_apic(g.rcx) {
-        return AxVCpuExitReason::ApicWrite {
+        AxVCpuExitReason::ApicWrite {
             msr: bits::low(g.rcx),
-            value: value,
-        };
-    }
-    AxVCpuExitReason::SysRegWrite {
-        addr: g.rcx,
-        value: value,
+            value,
+        }
+    } else {
+        AxVCpuExitReason::SysRegWrite { addr: g.rcx, value }
     }
 }
 
 // ---- by reason
 
-// What `builtin_vmexit_handler` deals with.
-#[tactic(auto, unfolding(crate::specs::Answer::is_builtin))]
-fn is_builtin(reason: u32) -> bool
-    ensures { result ≡ is_builtin reason }
-{
-    (reason == VmxExitReason::INTERRUPT_WINDOW)
-        | (reason == VmxExitReason::CPUID)
-        | (reason == VmxExitReason::CR_ACCESS)
-        | (reason == VmxExitReason::PREEMPTION_TIMER)
-        | (reason == VmxExitReason::XSETBV)
-}
+// Basic exit reasons as the report has them: a number, that may be no known one.
+const EXTERNAL_INTERRUPT: u32 = VmxExitReason::EXTERNAL_INTERRUPT as u32;
 
-#[tactic(auto, unfolding(crate::specs::Answer::answer_to))]
+const INTERRUPT_WINDOW: u32 = VmxExitReason::INTERRUPT_WINDOW as u32;
+
+const CPUID: u32 = VmxExitReason::CPUID as u32;
+
+const VMCALL: u32 = VmxExitReason::VMCALL as u32;
+
+const CR_ACCESS: u32 = VmxExitReason::CR_ACCESS as u32;
+
+const IO_INSTRUCTION: u32 = VmxExitReason::IO_INSTRUCTION as u32;
+
+const MSR_READ: u32 = VmxExitReason::MSR_READ as u32;
+
+const MSR_WRITE: u32 = VmxExitReason::MSR_WRITE as u32;
+
+const PREEMPTION_TIMER: u32 = VmxExitReason::PREEMPTION_TIMER as u32;
+
+const XSETBV: u32 = VmxExitReason::XSETBV as u32;
+
+// The first are what `builtin_vmexit_handler` deals with.
+#[tactic(auto, unfolding(crate::specs::Answer::is_builtin, crate::specs::Answer::answer_to))]
 fn answer_to(reason: u32, r: Report) -> AxVCpuExitReason
     ensures { result ≡ answer_to reason r }
 {
-    let registers = r.regs;
-    if is_builtin(reason) {
-        return AxVCpuExitReason::Nothing;
+    match reason {
+        INTERRUPT_WINDOW | CPUID | CR_ACCESS | PREEMPTION_TIMER | XSETBV => {
+            AxVCpuExitReason::Nothing
+        }
+        EXTERNAL_INTERRUPT => interrupt(r.interruption),
+        VMCALL => hypercall(r.regs),
+        IO_INSTRUCTION => io_answer(r.qualification, r.regs.rax),
+        MSR_READ => msr_read(r.regs),
+        MSR_WRITE => msr_write(r.regs),
+        _ => AxVCpuExitReason::Halt,
     }
-    if reason == VmxExitReason::EXTERNAL_INTERRUPT {
-        return interrupt(r.interruption);
-    }
-    if reason == VmxExitReason::VMCALL {
-        return hypercall(registers);
-    }
-    if reason == VmxExitReason::IO_INSTRUCTION {
-        return io_answer(r.qualification, registers.rax);
-    }
-    if reason == VmxExitReason::MSR_READ {
-        return msr_read(registers);
-    }
-    if reason == VmxExitReason::MSR_WRITE {
-        return msr_write(registers);
-    }
-    AxVCpuExitReason::Halt
 }
 
 // The answer to an accepted report that is not of a failed entry.

@@ -1,2 +1,3 @@
 pub mod Stays
 pub mod EntryLaws
+pub mod EventLaws

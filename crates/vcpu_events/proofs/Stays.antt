@@ -10,11 +10,10 @@ use Rattle.vcpu_session.specs.declared.Session.{Session}
 use Rattle.vcpu_session.specs.Phase as Phase
 use Rattle.vcpu_session.specs.Session.{LAST_ENTRY, is_unlawful}
 use Rattle.vcpu_events.specs.Queue.{answered, queue_event, inject_interrupt}
-use Rattle.vcpu_events.specs.declared.Answered.{Answered}
-use Rattle.vcpu_events.specs.declared.Event.{Event}
+use Rattle.vcpu_events.specs.Queue.{Event, Answered}
 use Rattle.vcpu_events.specs.Access.{fields_written, write_field, registers_written, set_register, apic_value}
 use Rattle.vcpu_events.specs.Entry.{injection_of, after_entry, refused_entry, entry}
-use Rattle.vcpu_events.specs.declared.Entered.{Entered}
+use Rattle.vcpu_events.specs.Entry.{Entered}
 use Rattle.regs.specs.Registers.{with_reg, reg_written}
 use Rattle.regs.specs.Accessors.{index_refusal}
 use Rattle.vmcs.specs.Field.{put}

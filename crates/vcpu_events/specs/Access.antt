@@ -3,14 +3,14 @@ use Rattle.std.specs.Prelude.{ℕ, cond, not, eqb}
 use Rattle.bits.specs.Words.{low32, high32}
 use Rattle.regs.specs.Registers.{with_reg_of_index, with_reg}
 use Rattle.regs.specs.declared.GeneralRegisters.{GeneralRegisters}
-use Rattle.regs.specs.declared.RegWritten.{RegWritten}
+use Rattle.regs.specs.Registers.{RegWritten}
 use Rattle.vmcs.specs.Fields.{vmcs_write}
-use Rattle.vmcs.specs.declared.Written.{Written}
+use Rattle.vmcs.specs.Fields.{Written}
 use Rattle.vcpu_session.specs.Phase as Phase
 use Rattle.vcpu_session.specs.Session.{is_unlawful, with_progress, with_regs, with_vmcs, in_phase}
 use Rattle.vcpu_session.specs.declared.Session.{Session}
 use Rattle.vcpu_events.specs.Queue.{answered}
-use Rattle.vcpu_events.specs.declared.Answered.{Answered}
+use Rattle.vcpu_events.specs.Queue.{Answered}
 
 abbrev pub fields_written : Session → Written → Answered
 fields_written s w = answered w.refusal (with_vmcs s w.vmcs)

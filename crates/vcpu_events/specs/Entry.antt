@@ -1,7 +1,9 @@
 -- Injecting an event and entering the guest (document 01, "Events" and "Session"; document 02, N7; SDM 3C, 25.8.3). Assumes nothing.
-use Rattle.std.specs.Prelude.{ℕ, ◌+◌, ◌/◌, ◌%◌, ◌^◌, Bool, true, false, cond, not, ◌&&◌, ◌||◌, eqb, leb}
+use Rattle.std.specs.Prelude.{ℕ, ◌+◌, ◌/◌, ◌%◌, ◌^◌, Bool, true, false, cond, Result, Ok, Err, not, ◌&&◌, ◌||◌, eqb, leb}
 use Rattle.std.specs.Int.Bits.{bit_and, bit_or}
 use Rattle.bits.specs.Words.{bit, bit_not}
+use Rattle.definitions.specs.Refusals.{number}
+use Rattle.definitions.specs.declared.refusal.Refusal.{Refusal}
 use Rattle.definitions.specs.Interruption.{has_error_code, from_vector, is_soft, event_word}
 use Rattle.vmcs.specs.Field.{value_of, put}
 use Rattle.vmcs.specs.Flags.Cr0Flags as Cr0Flags
@@ -18,11 +20,10 @@ use Rattle.vcpu_session.specs.Session.{LAST_ENTRY, is_unlawful, with_progress, w
 use Rattle.vcpu_session.specs.declared.Progress.{Progress}
 use Rattle.vcpu_session.specs.declared.Queue.{Queue}
 use Rattle.vcpu_session.specs.declared.Session.{Session}
-use Rattle.vcpu_events.specs.Queue.{front_of, popped}
-use Rattle.vcpu_events.specs.declared.Event.{Event}
+use Rattle.vcpu_events.specs.Queue.{Event, front_of, popped}
 use Rattle.vcpu_events.specs.declared.Injection.{Injection}
 use Rattle.vcpu_events.specs.declared.Injection.TheVariants.{Empty, Held, Written}
-use Rattle.vcpu_events.specs.declared.Entered.{Entered}
+use Rattle.vcpu_events.specs.declared.EntryAnswer.{EntryAnswer}
 
 -- ---- what an entry does with the front of the queue
 
@@ -108,6 +109,13 @@ after_entry s stack injection =
 
 -- ---- entry
 
+-- what an entry answers: where it is refused, only the number counts
+pub record Entered : Type 0 where
+  pub refusal : ℕ
+  pub resumed : Bool
+  pub injection : Injection
+  pub session : Session
+
 abbrev pub refused_entry : ℕ → Session → Entered
 refused_entry n s = record { refusal = n; resumed = false; injection = Empty; session = s }
 
@@ -123,6 +131,16 @@ entry s stack =
       injection = injection_of s.queue s.vmcs;
       session = after_entry s stack (injection_of s.queue s.vmcs);
     })))
+
+-- an entry's answer in the code, beside the session that it leaves
+abbrev pub entered_as : Result EntryAnswer Refusal → Session → Entered
+entered_as (Ok a) s = record { refusal = 0; resumed = a.resumed; injection = a.injection; session = s }
+entered_as (Err e) s = refused_entry (number e) s
+
+-- the same by value, where a refused entry leaves the session that came in
+abbrev pub entered_from : Session → Result (EntryAnswer × Session) Refusal → Entered
+entered_from s (Ok (a, next)) = entered_as (Ok a) next
+entered_from s (Err e) = refused_entry (number e) s
 
 -- the number of what an entry did with the front of the queue: 0 the queue is empty, 1 held, 2 written
 abbrev pub injection_number : Injection → ℕ

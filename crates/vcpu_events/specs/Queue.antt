@@ -1,12 +1,28 @@
 -- The queue of events, and queueing one (document 01, "Session" and "The operations and their numbers"). Assumes nothing.
-use Rattle.std.specs.Prelude.{ℕ, suc, ◌+◌, ◌-◌, ◌/◌, false, cond, List, ◌∷◌, ◌++◌, eqb, leb, ltb, get_or, set, take, drop}
+use Rattle.std.specs.Prelude.{ℕ, suc, ◌+◌, ◌-◌, ◌/◌, Bool, false, cond, is_some, unwrap_or, Result, Ok, Err, List, ◌∷◌, ◌++◌, eqb, leb, ltb, get_or, set, take, drop}
+use Rattle.std.specs.Bool.{then_some}
 use Rattle.bits.specs.Words.{bit, with_bit}
+use Rattle.definitions.specs.Refusals.{number}
+use Rattle.definitions.specs.declared.refusal.Refusal.{Refusal}
 use Rattle.vcpu_session.specs.Phase as Phase
 use Rattle.vcpu_session.specs.Session.{is_unlawful, with_queue}
 use Rattle.vcpu_session.specs.declared.Queue.{Queue}
 use Rattle.vcpu_session.specs.declared.Session.{Session}
-use Rattle.vcpu_events.specs.declared.Event.{Event}
-use Rattle.vcpu_events.specs.declared.Answered.{Answered}
+use Rattle.vcpu_events.specs.declared.Event as Code
+
+-- an event: a vector, whether it has an error code, and the code
+pub record Event : Type 0 where
+  pub vector : ℕ
+  pub coded : Bool
+  pub code : ℕ
+
+-- what the `Event` of the code is here: its error code is 0 where it has none
+abbrev pub event_of : Code.Event → Event
+event_of e = record { vector = e.vector; coded = is_some e.code; code = unwrap_or e.code 0 }
+
+-- the `Event` of the code for it: with the error code only where it is coded
+abbrev pub given : Event → Code.Event
+given e = record { vector = e.vector; code = then_some e.coded e.code }
 
 -- the front of the queue
 abbrev pub front_of : Queue → Event
@@ -36,8 +52,18 @@ pushed q e =
       codes = set q.codes q.waiting (cond e.coded e.code 0);
     }
 
+-- the refusal or 0, and the session: as it was where the call is refused
+pub record Answered : Type 0 where
+  pub refusal : ℕ
+  pub session : Session
+
 abbrev pub answered : ℕ → Session → Answered
 answered n s = record { refusal = n; session = s }
+
+-- a call's answer in the code, beside the session that came in
+abbrev pub answered_from : Session → Result Session Refusal → Answered
+answered_from s (Ok next) = answered 0 next
+answered_from s (Err e) = answered (number e) s
 
 -- 2: no record holds the session. 1: ended. 13: 64 events wait
 unfoldable pub queue_event : Session → Event → Answered

@@ -3,61 +3,46 @@
 // holds 64 events; no error code goes in while CR0.PE is clear; what the Rust panics at is refused by a number; the entry itself is the host's.
 #![tactic(auto)]
 
-ghost use Rattle.std.specs.Prelude.{◌≡◌, ◌<◌, ◌≤◌, ◌-◌, cond};
+ghost use Rattle.std.specs.Prelude.{◌≡◌, ◌<◌, ◌≤◌};
 ghost use Rattle.bits.specs.Words.{with_bit};
 ghost use Rattle.vcpu_session.specs.Session.{LAST_ENTRY};
 ghost use Rattle.vcpu_events.specs.Entry.{is_held, code_in, progress_after, injection_number};
 
-use vcpu_session::{Phase, Progress, Session};
+use vcpu_session::{Phase, Progress};
 use vmcs::flags::{Cr0Flags, RFlags};
 
-// An event: a vector and, if one is given, an error code. The code is 0 where none is given.
-#[derive(Clone, Copy)]
+// An event: a vector and, if one is given, an error code.
+#[derive(Clone, Copy, Debug, PartialEq, Eq)]
 pub struct Event {
     pub vector: u8,
-    pub coded: bool,
-    pub code: u32,
-}
-
-// The refusal or 0, and the session: as it was where the call is refused.
-#[derive(Clone, Copy)]
-pub struct Answered {
-    pub refusal: u32,
-    pub session: Session,
+    pub code: Option<u32>,
 }
 
 // What an entry does with the front of the queue: the queue is empty, the event is held back, or its word is written.
-#[derive(Clone, Copy)]
+#[derive(Clone, Copy, Debug, PartialEq, Eq, Hash)]
 pub enum Injection {
-    Empty,
-    Held,
-    Written,
+    Empty = 0,
+    Held = 1,
+    Written = 2,
 }
 
-// What an entry answers. Where it is refused, only the number counts.
-#[derive(Clone, Copy)]
-pub struct Entered {
-    pub refusal: u32,
+// The number of what an entry did, in the C interface.
+impl From<Injection> for u8 {
+    ghost from_gives = { λ injection n. n ≡ injection_number injection };
+
+    fn from(injection: Injection) -> u8 {
+        injection as u8
+    }
+}
+
+// What an accepted entry answers: whether it resumes a launched guest, and what it does with the front of the queue.
+#[derive(Clone, Copy, Debug, PartialEq, Eq)]
+pub struct EntryAnswer {
     pub resumed: bool,
     pub injection: Injection,
-    pub session: Session,
 }
 
 // ---- the queue
-
-// One less, and 0 for 0: the subtraction of the definition.
-pub fn less_one(n: u8) -> u8
-    ensures { result ≡ n - 1 }
-{
-    if n == 0 { 0 } else { n - 1 }
-}
-
-// The code that waits with an event: 0 where none is given.
-pub fn stored_code(e: Event) -> u32
-    ensures { result ≡ cond e.coded e.code 0 }
-{
-    if e.coded { e.code } else { 0 }
-}
 
 // Bit `place` of the word made `on`.
 pub fn with_coded(coded: u64, place: u8, on: bool) -> u64
@@ -92,27 +77,14 @@ pub fn progress_after(p: Progress, injection: Injection) -> Progress
     requires { (p.entries < LAST_ENTRY) × (p.held ≤ p.entries) }
     ensures { result ≡ progress_after p injection }
 {
-    let mut next = p;
-    next.phase = Phase::RUNNING;
-    next.launched = true;
-    next.entries = p.entries + 1;
-    match injection {
-        Injection::Empty => next,
-        Injection::Held => {
-            next.held = p.held + 1;
-            next
-        }
-        Injection::Written => next,
-    }
-}
-
-// The number of what an entry did with the front of the queue.
-pub fn injection_number(injection: Injection) -> u8
-    ensures { result ≡ injection_number injection }
-{
-    match injection {
-        Injection::Empty => 0,
-        Injection::Held => 1,
-        Injection::Written => 2,
+    let held = match injection {
+        Injection::Held => p.held + 1,
+        Injection::Empty | Injection::Written => p.held,
+    };
+    Progress {
+        phase: Phase::RUNNING,
+        launched: true,
+        entries: p.entries + 1,
+        held,
     }
 }

@@ -1,15 +1,16 @@
 // What a VM exit reports, what its words say, and the refusals of a report.
 // Ported from x86_vcpu src/vmx/vcpu.rs (Copyright 2025 The Axvisor Team, Apache-2.0). Changed: what the Rust reads from the processor after an
-// exit is one report, and what it panics at is refused by a number.
+// exit is one report, and what it panics at is refused.
 #![tactic(auto)]
 
 ghost use Rattle.std.specs.Prelude.{◌≡◌, ◌<◌};
+ghost use Rattle.definitions.specs.Refusals.{refusal_of};
 ghost use Rattle.vcpu_exit.specs.Reading.{reason_of, failed, is_apic, read_edx_eax, register_of, moved_value, is_move_to, turns_paging_on, advance_to, advance_of, past_end};
 ghost use Rattle.vcpu_exit.specs.Refusal.{unknown_reason, owned_bits_differ, no_interrupt, other_access, other_xcr, refused_xcr0, efer_refusal, reason_refusal, exit_refusal, report_refusal};
 ghost use Rattle.vcpu_exit.specs.Xcr0.{xcr0_allowed};
 
-use definitions::Refusal;
 use definitions::exit_reason::VmxExitReason;
+use definitions::{Refusal, VmxInterruptionType};
 use regs::GeneralRegisters;
 use vcpu_session::{Phase, Session};
 use vmcs::Vmcs;
@@ -53,20 +54,43 @@ pub struct Report {
 
 // ---- readings
 
+// The exit reasons that count here, by their numbers: what a processor reports may have no name.
+const EXTERNAL_INTERRUPT: u32 = VmxExitReason::EXTERNAL_INTERRUPT as u32;
+
+const CPUID: u32 = VmxExitReason::CPUID as u32;
+
+const VMCALL: u32 = VmxExitReason::VMCALL as u32;
+
+const CR_ACCESS: u32 = VmxExitReason::CR_ACCESS as u32;
+
+const IO_INSTRUCTION: u32 = VmxExitReason::IO_INSTRUCTION as u32;
+
+const MSR_READ: u32 = VmxExitReason::MSR_READ as u32;
+
+const MSR_WRITE: u32 = VmxExitReason::MSR_WRITE as u32;
+
+const INVALID_GUEST_STATE: u32 = VmxExitReason::INVALID_GUEST_STATE as u32;
+
+const MSR_LOAD_FAIL: u32 = VmxExitReason::MSR_LOAD_FAIL as u32;
+
+const MCE_DURING_VMENTRY: u32 = VmxExitReason::MCE_DURING_VMENTRY as u32;
+
+const APIC_ACCESS: u32 = VmxExitReason::APIC_ACCESS as u32;
+
+const XSETBV: u32 = VmxExitReason::XSETBV as u32;
+
 // The basic exit reason.
 pub fn reason_of(r: Report) -> u32
     ensures { result ≡ reason_of r }
 {
-    let info = vmcs::exit_info::exit_info(r.reason);
-    info.exit_reason
+    vmcs::exit_info::exit_info(r.reason).exit_reason
 }
 
 // The entry failed.
 pub fn is_failed(r: Report) -> bool
     ensures { result ≡ failed r }
 {
-    let info = vmcs::exit_info::exit_info(r.reason);
-    info.entry_failure
+    vmcs::exit_info::exit_info(r.reason).entry_failure
 }
 
 // Whether ECX is the MSR of an x2APIC register.
@@ -74,8 +98,7 @@ pub fn is_failed(r: Report) -> bool
 pub fn is_apic(rcx: u64) -> bool
     ensures { result ≡ is_apic rcx }
 {
-    let msr = bits::low(rcx);
-    (0x800 <= msr) & (msr <= 0x8FF)
+    matches!(bits::low(rcx), 0x800..=0x8FF)
 }
 
 // EDX:EAX.
@@ -94,9 +117,7 @@ fn register_of(g: GeneralRegisters, rsp: u64, index: u8) -> u64
     if index == 4 {
         return rsp;
     }
-    let list = regs::to_array(g);
-    let i = index as usize;
-    list[i]
+    <[u64; 16]>::from(g)[index as usize]
 }
 
 // The value that a move to a control register brings.
@@ -104,9 +125,8 @@ fn register_of(g: GeneralRegisters, rsp: u64, index: u8) -> u64
 pub fn moved_value(r: Report) -> u64
     ensures { result ≡ moved_value r }
 {
-    let registers = r.regs;
     let access = vmcs::exit_info::cr_access_info(r.qualification);
-    register_of(registers, r.rsp, access.gpr)
+    register_of(r.regs, r.rsp, access.gpr)
 }
 
 // Whether a control-register access is a move to the register n.
@@ -123,36 +143,25 @@ pub fn is_move_to(r: Report, n: u8) -> bool
 fn turns_paging_on(r: Report) -> bool
     ensures { result ≡ turns_paging_on r }
 {
-    (reason_of(r) == VmxExitReason::CR_ACCESS)
-        & is_move_to(r, 0)
-        & ((moved_value(r) >> Cr0Flags::PAGING) % 2 == 1)
+    (reason_of(r) == CR_ACCESS) & is_move_to(r, 0) & ((moved_value(r) >> Cr0Flags::PAGING) % 2 == 1)
 }
 
 #[tactic(auto, unfolding(crate::specs::Reading::advance_to))]
 fn advance_to(reason: u32, r: Report) -> u64
     ensures { result ≡ advance_to reason r }
 {
-    if reason == VmxExitReason::CPUID {
-        return 2;
+    match reason {
+        CPUID => 2,
+        CR_ACCESS => 3,
+        VMCALL | IO_INSTRUCTION => r.length as u64 % 0x100,
+        MSR_READ | MSR_WRITE if is_apic(r.regs.rcx) => 2,
+        XSETBV => 3,
+        _ => 0,
     }
-    if reason == VmxExitReason::CR_ACCESS {
-        return 3;
-    }
-    if (reason == VmxExitReason::VMCALL) | (reason == VmxExitReason::IO_INSTRUCTION) {
-        return r.length as u64 % 0x100;
-    }
-    if ((reason == VmxExitReason::MSR_READ) | (reason == VmxExitReason::MSR_WRITE))
-        & is_apic(r.regs.rcx)
-    {
-        return 2;
-    }
-    if reason == VmxExitReason::XSETBV {
-        return 3;
-    }
-    0
 }
 
-// By how much RIP advances.
+// By how much RIP advances. A call that is not inlined copies the report.
+#[inline]
 pub fn advance_of(r: Report) -> u64
     ensures { result ≡ advance_of r }
 {
@@ -167,21 +176,20 @@ pub fn unknown_reason(r: Report) -> bool
     ensures { result ≡ unknown_reason r }
 {
     let n = reason_of(r);
-    let known = (n <= 64) & (n != 35) & (n != 38) & (n != 42);
-    let entry = (n == VmxExitReason::INVALID_GUEST_STATE)
-        | (n == VmxExitReason::MSR_LOAD_FAIL)
-        | (n == VmxExitReason::MCE_DURING_VMENTRY);
+    let known = matches!(n, 0..=34 | 36..=37 | 39..=41 | 43..=64);
+    let entry = matches!(n, INVALID_GUEST_STATE | MSR_LOAD_FAIL | MCE_DURING_VMENTRY);
     !known | (is_failed(r) & !entry)
 }
 
 // 16: an external interrupt whose information is not valid, or of the reserved type.
-#[tactic(auto, unfolding(crate::specs::Refusal::no_interrupt))]
+#[tactic(auto, unfolding(crate::specs::Refusal::no_interrupt, definitions::specs::Interruption::type_number))]
 fn no_interrupt(r: Report) -> bool
     ensures { result ≡ no_interrupt r }
 {
     let info = vmcs::exit_info::interrupt_exit_info(r.interruption);
-    let int_type = definitions::type_number(definitions::type_of(r.interruption));
-    (reason_of(r) == VmxExitReason::EXTERNAL_INTERRUPT) & (!info.valid | (int_type == 1))
+    let int_type = definitions::type_of(r.interruption);
+    (reason_of(r) == EXTERNAL_INTERRUPT)
+        & (!info.valid | matches!(int_type, VmxInterruptionType::Reserved))
 }
 
 // 18: a control-register access that is no move to CR0 or CR4.
@@ -189,7 +197,7 @@ fn no_interrupt(r: Report) -> bool
 fn other_access(r: Report) -> bool
     ensures { result ≡ other_access r }
 {
-    (reason_of(r) == VmxExitReason::CR_ACCESS) & !(is_move_to(r, 0) | is_move_to(r, 4))
+    (reason_of(r) == CR_ACCESS) & !(is_move_to(r, 0) | is_move_to(r, 4))
 }
 
 // 20: XSETBV with ECX not 0.
@@ -197,7 +205,7 @@ fn other_access(r: Report) -> bool
 fn other_xcr(r: Report) -> bool
     ensures { result ≡ other_xcr r }
 {
-    (reason_of(r) == VmxExitReason::XSETBV) & (bits::low(r.regs.rcx) != 0)
+    (reason_of(r) == XSETBV) & (bits::low(r.regs.rcx) != 0)
 }
 
 // A value that XCR0 may have, within the supported bits: the manual's rule, over each bit as 0 or 1.
@@ -230,11 +238,7 @@ fn xcr0_allowed(supported: u64, value: u64) -> bool
 fn refused_xcr0(supported: u64, r: Report) -> bool
     ensures { result ≡ refused_xcr0 supported r }
 {
-    if reason_of(r) == VmxExitReason::XSETBV {
-        let registers = r.regs;
-        return !xcr0_allowed(supported, read_edx_eax(registers));
-    }
-    false
+    reason_of(r) == XSETBV && !xcr0_allowed(supported, read_edx_eax(r.regs))
 }
 
 // 17: RIP would pass 2^64 - 1.
@@ -242,56 +246,52 @@ fn refused_xcr0(supported: u64, r: Report) -> bool
 fn past_end(r: Report) -> bool
     ensures { result ≡ past_end r }
 {
-    0xFFFF_FFFF_FFFF_FFFF - advance_of(r) < r.rip
+    r.rip.checked_add(advance_of(r)).is_none()
 }
 
 // 8: paging is turned on, and entry bit 9 is to be set and is not in allowed-1.
 #[tactic(auto, unfolding(crate::specs::Refusal::efer_refusal))]
-fn efer_refusal(pair: Pair, entry: u32, r: Report) -> u32
-    ensures { result ≡ efer_refusal pair entry r }
+fn efer_refusal(pair: Pair, entry: u32, r: Report) -> Result<(), Refusal>
+    ensures { refusal_of result ≡ efer_refusal pair entry r }
 {
     if turns_paging_on(r) {
-        let update = vmcs::controls::update_efer(pair, r.efer, entry);
-        return update.refusal;
+        vmcs::controls::update_efer(pair, r.efer, entry)?;
     }
-    0
+    Ok(())
 }
 
-// Those of one exit reason alone: 16; 18; 20; 19; 21, an APIC access; or 0.
+// Those of one exit reason alone: 16; 18; 20; 19; 21, an APIC access.
 #[tactic(auto, unfolding(crate::specs::Refusal::reason_refusal))]
-fn reason_refusal(supported: u64, r: Report) -> u32
-    ensures { result ≡ reason_refusal supported r }
+fn reason_refusal(supported: u64, r: Report) -> Result<(), Refusal>
+    ensures { refusal_of result ≡ reason_refusal supported r }
 {
     if no_interrupt(r) {
-        return Refusal::INTERRUPT;
+        return Err(Refusal::Interrupt);
     }
     if other_access(r) {
-        return Refusal::CR_ACCESS;
+        return Err(Refusal::CrAccess);
     }
     if other_xcr(r) {
-        return Refusal::XCR;
+        return Err(Refusal::Xcr);
     }
     if refused_xcr0(supported, r) {
-        return Refusal::XCR0;
+        return Err(Refusal::Xcr0);
     }
-    if reason_of(r) == VmxExitReason::APIC_ACCESS {
-        return Refusal::APIC_ACCESS;
+    if reason_of(r) == APIC_ACCESS {
+        return Err(Refusal::ApicAccess);
     }
-    0
+    Ok(())
 }
 
 // The refusals of an exit: those of its reason; 17; 8. The reason's stand in a function of their own: the compiler does not inline a call behind so many
 // branches, and would copy the report for it.
 #[tactic(auto, unfolding(crate::specs::Refusal::exit_refusal, bits::specs::Refuses::or_else))]
-pub fn exit_refusal(pair: Pair, entry: u32, supported: u64, r: Report) -> u32
-    ensures { result ≡ exit_refusal pair entry supported r }
+pub fn exit_refusal(pair: Pair, entry: u32, supported: u64, r: Report) -> Result<(), Refusal>
+    ensures { refusal_of result ≡ exit_refusal pair entry supported r }
 {
-    let refusal = reason_refusal(supported, r);
-    if refusal != 0 {
-        return refusal;
-    }
+    reason_refusal(supported, r)?;
     if past_end(r) {
-        return Refusal::SUM;
+        return Err(Refusal::Sum);
     }
     efer_refusal(pair, entry, r)
 }

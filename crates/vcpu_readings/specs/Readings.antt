@@ -1,5 +1,5 @@
 -- The guest's mode, its page tables and a linear address (document 01, "Readings"; `get_cpu_mode`, `get_ptw_info`, `gla2gva`). Assumes nothing.
-use Rattle.std.specs.Prelude.{ℕ, ◌+◌, ◌-◌, ◌/◌, ◌%◌, ◌^◌, Bool, true, false, cond, eqb, ltb}
+use Rattle.std.specs.Prelude.{ℕ, ◌+◌, ◌-◌, ◌/◌, ◌%◌, ◌^◌, Bool, true, false, cond, eqb, ltb, Result, Ok, Err}
 use Rattle.bits.specs.Words.{bit}
 use Rattle.vmcs.specs.Field.{value_of}
 use Rattle.vmcs.specs.Flags.Cr0Flags as Cr0Flags
@@ -13,8 +13,6 @@ use Rattle.vcpu_readings.specs.declared.VmCpuMode.{VmCpuMode}
 use Rattle.vcpu_readings.specs.declared.VmCpuMode.TheVariants.{Real, Protected, Compatibility, Mode64}
 use Rattle.vcpu_readings.specs.declared.PagingWords.{PagingWords}
 use Rattle.vcpu_readings.specs.declared.GuestPageWalkInfo.{GuestPageWalkInfo}
-use Rattle.vcpu_readings.specs.declared.AddressAnswer.{AddressAnswer}
-use Rattle.vcpu_readings.specs.declared.AddressAnswer.TheVariants.{Value, Refused}
 
 -- ---- bits of access rights by their places (SDM 3C, table 25-2): 64-bit code segment, and the first bit of the descriptor privilege level
 
@@ -101,9 +99,9 @@ segment_base Protected csBase = csBase
 segment_base Compatibility csBase = csBase
 
 -- 17: the sum passes 2^64 - 1
-unfoldable pub linear_address : VmCpuMode → ℕ → ℕ → AddressAnswer
+unfoldable pub linear_address : VmCpuMode → ℕ → ℕ → Result ℕ ℕ
 linear_address mode csBase address =
-    cond (ltb (2 ^ 64 - 1 - segment_base mode csBase) address) (Refused 17) (Value (address + segment_base mode csBase))
+    cond (ltb (2 ^ 64 - 1 - segment_base mode csBase) address) (Err 17) (Ok (address + segment_base mode csBase))
 
-abbrev pub gla2gva : Vmcs → ℕ → ℕ → AddressAnswer
+abbrev pub gla2gva : Vmcs → ℕ → ℕ → Result ℕ ℕ
 gla2gva v efer address = linear_address (get_cpu_mode v efer) (value_of v VmcsGuestNW.CS_BASE) address

@@ -4,18 +4,28 @@
 #![tactic(auto)]
 
 ghost use Rattle.std.specs.Prelude.{◌≡◌};
+ghost use Rattle.definitions.specs.Refusals.{numbered};
 ghost use Rattle.vcpu_readings.specs.Readings.{cpu_mode, paging_level, walk_width, walk_pse, walk_nxe, page_walk, segment_base, linear_address, mode_number};
 
 use definitions::Refusal;
 use vmcs::flags::{AccessRights, Cr0Flags, Cr4Flags, EferFlags};
 
-// The mode of the guest's CPU.
-#[derive(Clone, Copy)]
+// The mode of the guest's CPU, by its number in the C interface.
+#[derive(Clone, Copy, Debug, PartialEq, Eq, Hash)]
 pub enum VmCpuMode {
-    Real,
-    Protected,
-    Compatibility,
-    Mode64,
+    Real = 0,
+    Protected = 1,
+    Compatibility = 2,
+    Mode64 = 3,
+}
+
+#[tactic(auto, unfolding(crate::specs::Readings::mode_number))]
+impl From<VmCpuMode> for u32 {
+    ghost from_gives = { λ mode n. n ≡ mode_number mode };
+
+    fn from(mode: VmCpuMode) -> u32 {
+        mode as u32
+    }
 }
 
 // What a walk of the guest's page tables starts from.
@@ -44,13 +54,6 @@ pub struct PagingWords {
     pub ssrights: u32,
 }
 
-// An address, or the number of the refusal.
-#[derive(Clone, Copy)]
-pub enum AddressAnswer {
-    Value(u64),
-    Refused(u32),
-}
-
 // The mode, from the host's EFER, the guest's CS access rights and CR0 (`get_cpu_mode`).
 #[tactic(auto, unfolding(crate::specs::Readings::cpu_mode))]
 pub fn cpu_mode(efer: u64, csrights: u32, cr0: u64) -> VmCpuMode
@@ -58,26 +61,14 @@ pub fn cpu_mode(efer: u64, csrights: u32, cr0: u64) -> VmCpuMode
 {
     if (efer >> EferFlags::LONG_MODE_ACTIVE) % 2 == 1 {
         if (csrights >> AccessRights::LONG_MODE) % 2 == 1 {
-            return VmCpuMode::Mode64;
+            VmCpuMode::Mode64
+        } else {
+            VmCpuMode::Compatibility
         }
-        return VmCpuMode::Compatibility;
-    }
-    if cr0 % 2 == 1 {
-        return VmCpuMode::Protected;
-    }
-    VmCpuMode::Real
-}
-
-// The number of a mode in the C interface.
-#[tactic(auto, unfolding(crate::specs::Readings::mode_number))]
-pub fn mode_number(mode: VmCpuMode) -> u32
-    ensures { result ≡ mode_number mode }
-{
-    match mode {
-        VmCpuMode::Real => 0,
-        VmCpuMode::Protected => 1,
-        VmCpuMode::Compatibility => 2,
-        VmCpuMode::Mode64 => 3,
+    } else if cr0 % 2 == 1 {
+        VmCpuMode::Protected
+    } else {
+        VmCpuMode::Real
     }
 }
 
@@ -87,28 +78,25 @@ fn paging_level(w: PagingWords) -> u8
     ensures { result ≡ paging_level w }
 {
     if (w.cr0 >> Cr0Flags::PAGING) % 2 == 0 {
-        return 0;
+        0
+    } else if (w.cr4 >> Cr4Flags::PHYSICAL_ADDRESS_EXTENSION) % 2 == 0 {
+        2
+    } else if (w.efer >> EferFlags::LONG_MODE_ACTIVE) % 2 == 1 {
+        4
+    } else {
+        3
     }
-    if (w.cr4 >> Cr4Flags::PHYSICAL_ADDRESS_EXTENSION) % 2 == 0 {
-        return 2;
-    }
-    if (w.efer >> EferFlags::LONG_MODE_ACTIVE) % 2 == 1 {
-        return 4;
-    }
-    3
 }
 
 #[tactic(auto, unfolding(crate::specs::Readings::walk_width))]
 fn walk_width(level: u8) -> u8
     ensures { result ≡ walk_width level }
 {
-    if level == 0 {
-        return 0;
+    match level {
+        0 => 0,
+        2 => 10,
+        _ => 9,
     }
-    if level == 2 {
-        return 10;
-    }
-    9
 }
 
 // CR4.PSE at level 2, else yes.
@@ -116,10 +104,7 @@ fn walk_width(level: u8) -> u8
 fn walk_pse(level: u8, cr4: u64) -> bool
     ensures { result ≡ walk_pse level cr4 }
 {
-    if level == 2 {
-        return (cr4 >> Cr4Flags::PAGE_SIZE_EXTENSION) % 2 == 1;
-    }
-    true
+    level != 2 || (cr4 >> Cr4Flags::PAGE_SIZE_EXTENSION) % 2 == 1
 }
 
 // EFER.NXE, but at level 2 no.
@@ -127,10 +112,7 @@ fn walk_pse(level: u8, cr4: u64) -> bool
 fn walk_nxe(level: u8, efer: u64) -> bool
     ensures { result ≡ walk_nxe level efer }
 {
-    if level == 2 {
-        return false;
-    }
-    (efer >> EferFlags::NO_EXECUTE_ENABLE) % 2 == 1
+    level != 2 && (efer >> EferFlags::NO_EXECUTE_ENABLE) % 2 == 1
 }
 
 // What a walk of the guest's page tables starts from (`get_ptw_info`).
@@ -141,7 +123,7 @@ pub fn page_walk(w: PagingWords) -> GuestPageWalkInfo
     let level = paging_level(w);
     GuestPageWalkInfo {
         top_entry: w.cr3,
-        level: level,
+        level,
         width: walk_width(level),
         is_user_mode_access: (w.ssrights >> AccessRights::DPL) % 4 == 3,
         is_write_access: false,
@@ -161,20 +143,15 @@ fn segment_base(mode: VmCpuMode, csbase: u64) -> u64
 {
     match mode {
         VmCpuMode::Mode64 => 0,
-        VmCpuMode::Real => csbase,
-        VmCpuMode::Protected => csbase,
-        VmCpuMode::Compatibility => csbase,
+        VmCpuMode::Real | VmCpuMode::Protected | VmCpuMode::Compatibility => csbase,
     }
 }
 
 // A guest address with the base of CS added, but in 64-bit mode none (`gla2gva`). Refusal 17: the sum passes 2^64 - 1.
 #[tactic(auto, unfolding(crate::specs::Readings::linear_address))]
-pub fn linear_address(mode: VmCpuMode, csbase: u64, address: u64) -> AddressAnswer
-    ensures { result ≡ linear_address mode csbase address }
+pub fn linear_address(mode: VmCpuMode, csbase: u64, address: u64) -> Result<u64, Refusal>
+    ensures { numbered result ≡ linear_address mode csbase address }
 {
     let base = segment_base(mode, csbase);
-    if 0xFFFF_FFFF_FFFF_FFFF - base < address {
-        return AddressAnswer::Refused(Refusal::SUM);
-    }
-    AddressAnswer::Value(address + base)
+    address.checked_add(base).ok_or(Refusal::Sum)
 }

@@ -21,7 +21,7 @@ use Rattle.vmcs.specs.Names.VmcsGuest32 as VmcsGuest32
 use Rattle.vmcs.specs.Names.VmcsGuestNW as VmcsGuestNW
 use Rattle.vmcs.specs.Writes.{◌≔◌}
 use Rattle.vmcs.specs.declared.Vmcs.{Vmcs}
-use Rattle.vmcs.specs.declared.controls.EferUpdate.{EferUpdate}
+use Rattle.vmcs.specs.Efer.{EferUpdate}
 use Rattle.vmcs.specs.declared.controls.Pair.{Pair}
 use Rattle.vmcs.proofs.ControlLaws.{control_permitted}
 use Rattle.vcpu_session.specs.declared.Capabilities.{Capabilities}

@@ -30,7 +30,7 @@ use Rattle.vcpu_report.specs.Handlers.{failure_writes, failure_stored}
 use Rattle.vcpu_report.specs.ExitReport.{phase_after, xcr0_after, failed_entry, after_exit, accepted, exit_report, reported}
 use Rattle.vcpu_report.specs.Invariant.{Consistent, Sound, Fits}
 use Rattle.vcpu_report.specs.Laws.{SameRest, AfterExit, AfterFailure, ReportLaws}
-use Rattle.vcpu_report.specs.declared.Reported.{Reported}
+use Rattle.vcpu_report.specs.ExitReport.{Reported}
 use Rattle.vcpu_report.proofs.Steps.{kept_field}
 use Rattle.vcpu_report.proofs.Known.{known_after, rip_after, invalid}
 use Rattle.vcpu_report.proofs.Kept.{kept_after, kept_failure}

@@ -1,5 +1,7 @@
 -- The exit report (document 01, "Session" and "The operations and their numbers"). Assumes nothing.
-use Rattle.std.specs.Prelude.{ℕ, cond, eqb}
+use Rattle.std.specs.Prelude.{ℕ, cond, Result, Ok, Err, eqb}
+use Rattle.definitions.specs.Refusals.{number}
+use Rattle.definitions.specs.declared.refusal.Refusal.{Refusal}
 use Rattle.regs.specs.declared.GeneralRegisters.{GeneralRegisters}
 use Rattle.definitions.specs.VmxExitReason as VmxExitReason
 use Rattle.vcpu_session.specs.Phase as Phase
@@ -14,7 +16,6 @@ use Rattle.vcpu_answers.specs.Cpuid.{handle_cpuid}
 use Rattle.vcpu_answers.specs.declared.AxVCpuExitReason.{AxVCpuExitReason}
 use Rattle.vcpu_answers.specs.declared.AxVCpuExitReason.TheVariants.{Nothing, FailEntry}
 use Rattle.vcpu_report.specs.Handlers.{vmcs_after, failure_stored}
-use Rattle.vcpu_report.specs.declared.Reported.{Reported}
 
 -- CPUID, reason 10, changes four registers
 unfoldable pub registers_after : Report → GeneralRegisters
@@ -39,6 +40,12 @@ after_exit s r =
     (with_regs (with_xcr0 (with_vmcs s (vmcs_after s.vmcs s.capabilities r)) (xcr0_after s.xcr0 r)) (registers_after r))
     (in_phase s.progress (phase_after r))
 
+-- the refusal or 0, the answer, and the session: as it was where the report is refused, and then only the number counts
+pub record Reported : Type 0 where
+  pub refusal : ℕ
+  pub answer : AxVCpuExitReason
+  pub session : Session
+
 abbrev pub reported : ℕ → AxVCpuExitReason → Session → Reported
 reported n a s = record { refusal = n; answer = a; session = s }
 
@@ -48,3 +55,13 @@ accepted s r = cond (failed r) (reported 0 (FailEntry 0) (failed_entry s r)) (re
 -- a refused report changes nothing and answers only its number
 unfoldable pub exit_report : Session → Report → Reported
 exit_report s r = cond (eqb (report_refusal s r) 0) (accepted s r) (reported (report_refusal s r) Nothing s)
+
+-- a report's answer in the code, beside the session that it leaves
+abbrev pub reported_as : Result AxVCpuExitReason Refusal → Session → Reported
+reported_as (Ok answer) s = reported 0 answer s
+reported_as (Err e) s = reported (number e) Nothing s
+
+-- the same by value, where a refused report leaves the session that came in
+abbrev pub reported_from : Session → Result (AxVCpuExitReason × Session) Refusal → Reported
+reported_from s (Ok (answer, next)) = reported 0 answer next
+reported_from s (Err e) = reported (number e) Nothing s

@@ -15,7 +15,7 @@ use Rattle.vmcs.specs.Names.VmcsReadOnly32 as VmcsReadOnly32
 use Rattle.vmcs.specs.Names.VmcsReadOnlyNW as VmcsReadOnlyNW
 use Rattle.vmcs.specs.Writes.{Write, ◌≔◌, applied}
 use Rattle.vmcs.specs.declared.Vmcs.{Vmcs}
-use Rattle.vmcs.specs.declared.controls.EferUpdate.{EferUpdate}
+use Rattle.vmcs.specs.Efer.{EferUpdate}
 use Rattle.vmcs.specs.declared.controls.Pair.{Pair}
 use Rattle.vcpu_session.specs.Session.{VMX_PREEMPTION_TIMER_SET_VALUE}
 use Rattle.vcpu_session.specs.declared.Capabilities.{Capabilities}

@@ -10,29 +10,19 @@ ghost use Rattle.vcpu_report.specs.ExitReport.{registers_after, phase_after, fai
 
 use definitions::exit_reason::VmxExitReason;
 use regs::GeneralRegisters;
-use vcpu_answers::AxVCpuExitReason;
 use vcpu_exit::Report;
-use vcpu_session::{Phase, Session};
-
-// The refusal or 0, the answer, and the session: as it was where the report is refused, and then only the number counts.
-#[derive(Clone, Copy)]
-pub struct Reported {
-    pub refusal: u32,
-    pub answer: AxVCpuExitReason,
-    pub session: Session,
-}
+use vcpu_session::Phase;
 
 // The general registers after an exit: CPUID changes four of them.
 #[tactic(auto, unfolding(crate::specs::ExitReport::registers_after))]
 pub fn registers_after(r: Report) -> GeneralRegisters
     ensures { result ≡ registers_after r }
 {
-    let registers = r.regs;
-    let host = r.cpuid;
-    if vcpu_exit::reason_of(r) == VmxExitReason::CPUID {
-        return vcpu_answers::cpuid::handle_cpuid(registers, host);
+    if vcpu_exit::reason_of(r) == VmxExitReason::CPUID as u32 {
+        vcpu_answers::cpuid::handle_cpuid(r.regs, r.cpuid)
+    } else {
+        r.regs
     }
-    registers
 }
 
 // A read of an APIC register waits for its value.
@@ -40,10 +30,9 @@ pub fn registers_after(r: Report) -> GeneralRegisters
 pub fn phase_after(r: Report) -> u8
     ensures { result ≡ phase_after r }
 {
-    if vcpu_exit::reason_of(r) == VmxExitReason::MSR_READ {
-        if vcpu_exit::is_apic(r.regs.rcx) {
-            return Phase::WAITING;
-        }
+    if vcpu_exit::reason_of(r) == VmxExitReason::MSR_READ as u32 && vcpu_exit::is_apic(r.regs.rcx) {
+        Phase::WAITING
+    } else {
+        Phase::READY
     }
-    Phase::READY
 }

@@ -16,7 +16,7 @@ pub const VMX_PREEMPTION_TIMER_SET_VALUE: u32 = 1_000_000;
 // The entry count at which no further entry is accepted (refusal 22).
 pub const LAST_ENTRY: u32 = 0xFFFF_FFFF;
 
-// The phases of a session, by document 01's names and numbers.
+// The phases of a session, by document 01's names and numbers. Numbers and no enum: a call by value answers 2 for a session of another phase (`vcpu::queue_event`).
 #[derive(Drop)]
 pub struct Phase {}
 
@@ -97,7 +97,7 @@ pub fn new() -> Session
         fixed0: 0,
         fixed1: 0,
     };
-    let registers = regs::of_array([0; 16]);
+    let registers = GeneralRegisters::from([0; 16]);
     Session {
         progress: Progress {
             phase: Phase::FRESH,

@@ -2,7 +2,9 @@
 use Prim.Native.Nat.{ℕ, ◌+◌, ◌≤◌}
 use native.Mathlib.Omega.{arith}
 use mathlib.Core.Path.{◌≡◌, refl, ap, ◌∙◌}
-use mathlib.Core.Logic.{inl}
+use mathlib.Core.Logic.{◌≢◌, dite, inl}
+use native.Mathlib.Decide.{ℕ_discrete}
+use borrow.Author.Tests.{ne_eqb}
 use mathlib.Core.Bool.{Bool, true, false, cond, ◌&&◌, ◌||◌}
 use mathlib.Core.List.{List}
 use lib.Dec.{eqb}
@@ -10,7 +12,7 @@ use lib.ListN.{length}
 use Rattle.structs.specs.declared.Access.{Access}
 use Rattle.structs.specs.declared.Access.TheVariants.{Read, Write}
 use Rattle.structs.specs.Bitmap.{in_range}
-use Rattle.structs.specs.Frames.{port_intercept, msr_intercept, edit_ports, edit_msrs, covered, among}
+use Rattle.structs.specs.Frames.{port_intercept, msr_intercept, edit_ports, MsrEdit, msr_refusal, edit_msrs, covered, among}
 use Rattle.structs.specs.Numbers.{IsMsr}
 use Rattle.structs.proofs.BitmapLaws.{range_of_one}
 use Rattle.structs.proofs.PortLaws.{port_numbers, port_length_a, port_length_b, port_edited}
@@ -73,3 +75,12 @@ module _ (a b frame : List ℕ) (la : length a ≡ 4096) (lb : length b ≡ 4096
           at first X2APIC_MSRS X2APIC_COUNT first_length (omega arith) x m s
           ∙ ap (λ (t : Bool). in_range X2APIC_MSRS X2APIC_COUNT m || t) (at frame IA32_UMWAIT_CONTROL 1 lf (omega arith) x m s)
           ∙ ap (λ (t : Bool). in_range X2APIC_MSRS X2APIC_COUNT m || (t || msr_intercept frame x m)) (range_of_one IA32_UMWAIT_CONTROL m)
+
+-- where the first edit of the MSR bitmaps is refused, so is the second, by the same number
+pub refused_alike : (frame ys : List ℕ) (n : ℕ) → n ≢ 0 → ◌≡◌ {A = MsrEdit} (record { refusal = n; frame = ys }) (edit_msrs frame IA32_UMWAIT_CONTROL 1 both_accesses true)
+    → ◌≡◌ {A = MsrEdit} (record { refusal = n; frame = ys }) (msr_bitmap_set frame)
+unfolding msr_bitmap_set edit_msrs msr_refusal
+refused_alike frame ys n some h =
+    dite (ℕ_discrete (length frame) 4096)
+    (λ e. absurd (some (ap (λ (x : MsrEdit). x.refusal) h ∙ (msr_numbers frame IA32_UMWAIT_CONTROL 1 both_accesses true).is_0.1 (e, inl (omega arith)))))
+    (λ d. h ∙ simp (ne_eqb (length frame) 4096 d))

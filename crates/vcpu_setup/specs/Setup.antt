@@ -10,7 +10,7 @@ use Rattle.vcpu_session.specs.declared.Fixed.{Fixed}
 use Rattle.vcpu_session.specs.declared.Capabilities.{Capabilities}
 use Rattle.vcpu_session.specs.declared.Session.{Session}
 use Rattle.vcpu_events.specs.Queue.{answered}
-use Rattle.vcpu_events.specs.declared.Answered.{Answered}
+use Rattle.vcpu_events.specs.Queue.{Answered}
 use Rattle.vcpu_setup.specs.Capability.{capabilities_of}
 use Rattle.vcpu_setup.specs.Words.{words_refusal}
 use Rattle.vcpu_setup.specs.Writes.{vmcs_set}

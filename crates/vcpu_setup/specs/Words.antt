@@ -10,6 +10,7 @@ use Rattle.vmcs.specs.Flags.SecondaryControls as SecondaryControls
 use Rattle.vmcs.specs.Flags.ExitControls as ExitControls
 use Rattle.vmcs.specs.Flags.EntryControls as EntryControls
 use Rattle.vmcs.specs.declared.controls.Pair.{Pair}
+use Rattle.vcpu_setup.specs.declared.Demand.{Demand}
 use Rattle.vcpu_setup.specs.declared.Features.{Features}
 
 abbrev pub pin_set : ℕ
@@ -39,6 +40,13 @@ exit_set =
 
 abbrev pub entry_set : ℕ
 entry_set = mask_of (EntryControls.LOAD_IA32_PAT ∷ EntryControls.LOAD_IA32_EFER ∷ [])
+
+-- what is set and cleared of each word: pin, primary, secondary, exit, entry
+abbrev pub to_set : ℕ → Demand
+to_set set = record { set = set; clear = 0 }
+
+abbrev pub demands : Features → List Demand
+demands f = to_set pin_set ∷ record { set = primary_set; clear = primary_clear } ∷ to_set (secondary_set f) ∷ to_set exit_set ∷ to_set entry_set ∷ []
 
 -- ---- refusals
 

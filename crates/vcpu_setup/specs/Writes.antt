@@ -1,8 +1,8 @@
 -- What setup writes, by the Rust's names and in the order of setup_vmcs (document 01, "Setup": all other fields are as in the Rust). Assumes nothing.
-use Rattle.std.specs.Prelude.{ℕ, List, [], ◌∷◌, ◌++◌, get_or}
+use Rattle.std.specs.Prelude.{ℕ, ◌<◌, List, [], ◌∷◌, ◌++◌, get_or}
 use Rattle.vmcs.specs.Cr.{cr0_words, cr4_words, first_cr0, cr0_writes, cr4_writes}
 use Rattle.vmcs.specs.declared.controls.CrWords.{CrWords}
-use Rattle.vmcs.specs.Field.{Field}
+use Rattle.vmcs.specs.Field.{Field, Word16, Word32, Natural}
 use Rattle.vmcs.specs.declared.Vmcs.{Vmcs}
 use Rattle.vmcs.specs.Writes.{Write, ◌≔◌, applied}
 use Rattle.vmcs.specs.Names.VmcsControl32 as VmcsControl32
@@ -23,6 +23,7 @@ use Rattle.vcpu_setup.specs.declared.CapabilityMsrs.{CapabilityMsrs}
 use Rattle.vcpu_setup.specs.declared.Arguments.{Arguments}
 use Rattle.vcpu_setup.specs.declared.HostWords.{HostWords}
 use Rattle.vcpu_setup.specs.declared.Addresses.{Addresses}
+use Rattle.vcpu_setup.specs.declared.Segment.{Segment}
 
 -- ---- setup_vmcs_host
 
@@ -66,6 +67,13 @@ cr_set v cr0 cr4 = applied (cr_writes cr0 cr4) v
 -- set_guest_segment!: selector and base 0, limit 0xFFFF
 abbrev pub segment_writes : Field → Field → Field → Field → ℕ → List Write
 segment_writes selector base limit rights access = selector ≔ 0 ∷ base ≔ 0 ∷ limit ≔ 0xFFFF ∷ rights ≔ access ∷ []
+
+-- the places lie within their arrays
+abbrev pub InRange : Segment → Type 0
+InRange g = (g.selector < 17) × (g.base < 46) × (g.limit < 50) × (g.rights < 50)
+
+abbrev pub writes_of : Segment → List Write
+writes_of g = segment_writes (Word16 g.selector) (Natural g.base) (Word32 g.limit) (Word32 g.rights) g.access
 
 -- the guest starts in real mode. Access rights (SDM 3C, table 25-2), all present: 0x93 data, read/write, accessed; 0x9B code, execute/read, accessed; 0x8B a busy TSS; 0x82 an LDT
 abbrev pub segments_writes : List Write

@@ -1,8 +1,12 @@
 // The intercepts that setup adds to the frames.
 // Ported from setup_io_bitmap and setup_msr_bitmap of x86_vcpu src/vmx/vcpu.rs (Copyright 2025 The Axvisor Team, Apache-2.0). Changed: the frames are
-// the caller's slices, and a frame of another length answers a number.
+// the caller's slices, and a frame of another length is refused.
 ghost use Rattle.std.specs.Prelude.{◌≡◌};
+ghost use Rattle.definitions.specs.Refusals.{refusal_of};
 ghost use Rattle.vcpu_setup.specs.Bitmaps.{io_bitmap_set, msr_bitmap_set};
+
+use definitions::Refusal;
+use structs::Access;
 
 const QEMU_EXIT_PORT: u32 = 0x604;
 
@@ -14,17 +18,18 @@ const X2APIC_COUNT: u32 = 64;
 
 // Adds the port by which a guest ends QEMU: refusal 2.
 #[tactic(auto, unfolding(crate::specs::Bitmaps::io_bitmap_set))]
-pub fn setup_io_bitmap(a: &mut [u8], b: &mut [u8]) -> u32
-    ensures { record { refusal = result; a = a.new; b = b.new } ≡ io_bitmap_set a.old b.old }
+pub fn setup_io_bitmap(a: &mut [u8], b: &mut [u8]) -> Result<(), Refusal>
+    ensures { record { refusal = refusal_of result; a = a.new; b = b.new } ≡ io_bitmap_set a.old b.old }
 {
     structs::set_intercept(a, b, QEMU_EXIT_PORT, true)
 }
 
 // Adds reads and writes of IA32_UMWAIT_CONTROL, since a Linux guest takes an exception from it otherwise (the Rust), and of the x2APIC registers: refusal 2. Both edits are refused alike.
 #[tactic(auto, unfolding(crate::specs::Bitmaps::msr_bitmap_set))]
-pub fn setup_msr_bitmap(frame: &mut [u8]) -> u32
-    ensures { record { refusal = result; frame = frame.new } ≡ msr_bitmap_set frame.old }
+pub fn setup_msr_bitmap(frame: &mut [u8]) -> Result<(), Refusal>
+    ensures { record { refusal = refusal_of result; frame = frame.new } ≡ msr_bitmap_set frame.old }
 {
-    structs::set_msr_intercept_of_range(frame, IA32_UMWAIT_CONTROL, true);
-    structs::set_msr_intercepts(frame, X2APIC_MSRS, X2APIC_COUNT, true)
+    let accesses = [Access::Read, Access::Write];
+    structs::set_msr_intercepts(frame, &accesses, IA32_UMWAIT_CONTROL, 1, true)?;
+    structs::set_msr_intercepts(frame, &accesses, X2APIC_MSRS, X2APIC_COUNT, true)
 }

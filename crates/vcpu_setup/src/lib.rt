@@ -5,17 +5,16 @@
 
 pub mod bitmaps;
 
-ghost use Rattle.std.specs.Prelude.{◌≡◌, ◌<◌};
-ghost use Rattle.bits.specs.Refuses.{or_else};
-ghost use Rattle.vmcs.specs.Field.{Word16, Word32, Natural};
+ghost use Rattle.std.specs.Prelude.{◌≡◌, eqb, bit_and};
+ghost use Rattle.definitions.specs.Refusals.{refusal_of};
 ghost use Rattle.vmcs.specs.Writes.{applied};
+ghost use Rattle.vcpu_events.specs.Queue.{answered_from};
 ghost use Rattle.vcpu_setup.specs.Capability.{halves, used, fixed_words, pairs_of, olds_of, capabilities_of};
-ghost use Rattle.vcpu_setup.specs.Words.{secondary_set, setup_word, setup_words, bits_refusal, words_refusal};
-ghost use Rattle.vcpu_setup.specs.Writes.{host_set, cr_set, segment_writes, segments_set, guest_set, control_set, vmcs_set};
-ghost use Rattle.vcpu_setup.specs.Setup.{pair_consistent, fixed_consistent, consistent, capability_refusal, setup_refusal, readied, setup_of};
+ghost use Rattle.vcpu_setup.specs.Words.{secondary_set, demands, setup_words, bits_refusal, words_refusal};
+ghost use Rattle.vcpu_setup.specs.Writes.{host_set, cr_set, InRange, writes_of, segments_set, guest_set, control_set, vmcs_set};
+ghost use Rattle.vcpu_setup.specs.Setup.{consistent, capability_refusal, setup_refusal, readied, setup_of};
 
 use definitions::Refusal;
-use vcpu_events::Answered;
 use vcpu_session::{Capabilities, Fixed, Phase, Session, Xcr0};
 use vmcs::Vmcs;
 use vmcs::controls::{CrWords, Pair};
@@ -128,32 +127,28 @@ fn word_used(basic: u64, plain: u64, superseding: u64) -> u64
 fn pairs_of(m: CapabilityMsrs) -> [Pair; 5]
     ensures { result ≡ pairs_of m }
 {
-    let pin = halves_of(word_used(m.basic, m.pinbased, m.truepinbased));
-    let primary = halves_of(word_used(m.basic, m.procbased, m.trueprocbased));
-    let secondary = halves_of(m.procbased2);
-    let exit = halves_of(word_used(m.basic, m.exit, m.trueexit));
-    let entry = halves_of(word_used(m.basic, m.entry, m.trueentry));
-    [pin, primary, secondary, exit, entry]
+    [
+        word_used(m.basic, m.pinbased, m.truepinbased),
+        word_used(m.basic, m.procbased, m.trueprocbased),
+        m.procbased2,
+        word_used(m.basic, m.exit, m.trueexit),
+        word_used(m.basic, m.entry, m.trueentry),
+    ]
+    .map(halves_of)
 }
 
 // The old words: the low halves of the plain words, whichever are used.
 fn olds_of(m: CapabilityMsrs) -> [u32; 5]
     ensures { result ≡ olds_of m }
 {
-    let pin = bits::low(m.pinbased);
-    let primary = bits::low(m.procbased);
-    let secondary = bits::low(m.procbased2);
-    let exit = bits::low(m.exit);
-    let entry = bits::low(m.entry);
-    [pin, primary, secondary, exit, entry]
+    [m.pinbased, m.procbased, m.procbased2, m.exit, m.entry].map(bits::low)
 }
 
 pub fn capabilities_of(m: CapabilityMsrs) -> Capabilities
     ensures { result ≡ capabilities_of m }
 {
-    let pairs = pairs_of(m);
     Capabilities {
-        pairs: pairs,
+        pairs: pairs_of(m),
         cr0: Fixed {
             fixed0: m.cr0fixed0,
             fixed1: m.cr0fixed1,
@@ -175,9 +170,9 @@ const UNRESTRICTED_GUEST: u32 = 1 << SecondaryControls::UNRESTRICTED_GUEST;
 fn secondary_set(f: Features) -> u32
     ensures { result ≡ secondary_set f }
 {
-    (f.rdtscp as u32) << SecondaryControls::ENABLE_RDTSCP
-        | (f.invpcid as u32) << SecondaryControls::ENABLE_INVPCID
-        | (f.xsaves as u32) << SecondaryControls::ENABLE_XSAVES_XRSTORS
+    u32::from(f.rdtscp) << SecondaryControls::ENABLE_RDTSCP
+        | u32::from(f.invpcid) << SecondaryControls::ENABLE_INVPCID
+        | u32::from(f.xsaves) << SecondaryControls::ENABLE_XSAVES_XRSTORS
         | (ENABLE_EPT | UNRESTRICTED_GUEST)
 }
 
@@ -202,62 +197,70 @@ const EXIT_SET: u32 = 1 << ExitControls::HOST_ADDRESS_SPACE_SIZE
 
 const ENTRY_SET: u32 = 1 << EntryControls::LOAD_IA32_PAT | 1 << EntryControls::LOAD_IA32_EFER;
 
-// The refusal of one word: 8, a set bit is not in allowed-1; 9, a cleared bit is in allowed-0; or 0.
-#[tactic(auto, unfolding(crate::specs::Words::bits_refusal))]
-fn bits_refusal(pair: Pair, set: u32, clear: u32) -> u32
-    ensures { result ≡ bits_refusal pair set clear }
-{
-    if set & pair.allowed1 != set {
-        return Refusal::SET;
-    }
-    if pair.allowed0 & clear != 0 {
-        return Refusal::CLEAR;
-    }
-    0
+// What setup asks of a control word: the bits to be set, and those to be cleared.
+#[derive(Clone, Copy)]
+struct Demand {
+    set: u32,
+    clear: u32,
 }
 
-// The first of two refusals, where 0 is none.
-#[tactic(auto, unfolding(bits::specs::Refuses::or_else))]
-fn or_else(first: u32, second: u32) -> u32
-    ensures { result ≡ or_else first second }
+// pin, primary, secondary, exit, entry
+fn demands(f: Features) -> [Demand; 5]
+    ensures { result ≡ demands f }
 {
-    if first == 0 { second } else { first }
+    let to_set = |set| Demand { set, clear: 0 };
+    [
+        to_set(PIN_SET),
+        Demand {
+            set: PRIMARY_SET,
+            clear: PRIMARY_CLEAR,
+        },
+        to_set(secondary_set(f)),
+        to_set(EXIT_SET),
+        to_set(ENTRY_SET),
+    ]
+}
+
+// The refusal of one word: 8, a bit to be set is not in allowed-1; 9, a bit to be cleared is in allowed-0.
+#[tactic(auto, unfolding(crate::specs::Words::bits_refusal))]
+fn bits_refusal(pair: Pair, demand: Demand) -> Result<(), Refusal>
+    ensures { refusal_of result ≡ bits_refusal pair demand.set demand.clear }
+{
+    if demand.set & pair.allowed1 != demand.set {
+        return Err(Refusal::Set);
+    }
+    if pair.allowed0 & demand.clear != 0 {
+        return Err(Refusal::Clear);
+    }
+    Ok(())
 }
 
 #[tactic(auto, unfolding(crate::specs::Words::words_refusal))]
-fn words_refusal(pairs: [Pair; 5], f: Features) -> u32
-    ensures { result ≡ words_refusal pairs f }
+fn words_refusal(pairs: [Pair; 5], f: Features) -> Result<(), Refusal>
+    ensures { refusal_of result ≡ words_refusal pairs f }
 {
-    let pin = bits_refusal(pairs[0], PIN_SET, 0);
-    let primary = bits_refusal(pairs[1], PRIMARY_SET, PRIMARY_CLEAR);
-    let secondary = bits_refusal(pairs[2], secondary_set(f), 0);
-    let exit = bits_refusal(pairs[3], EXIT_SET, 0);
-    let entry = bits_refusal(pairs[4], ENTRY_SET, 0);
-    or_else(
-        pin,
-        or_else(primary, or_else(secondary, or_else(exit, entry))),
-    )
+    for (pair, demand) in pairs.iter().zip(&demands(f)) {
+        bits_refusal(*pair, *demand)?;
+    }
+    Ok(())
 }
 
 #[tactic(auto, unfolding(crate::specs::Words::setup_words))]
 fn setup_words(pairs: [Pair; 5], olds: [u32; 5], f: Features) -> [u32; 5]
     ensures { result ≡ setup_words pairs olds f }
 {
-    let pin = vmcs::controls::control_word(pairs[0], olds[0], PIN_SET, 0);
-    let primary = vmcs::controls::control_word(pairs[1], olds[1], PRIMARY_SET, PRIMARY_CLEAR);
-    let secondary = vmcs::controls::control_word(pairs[2], olds[2], secondary_set(f), 0);
-    let exit = vmcs::controls::control_word(pairs[3], olds[3], EXIT_SET, 0);
-    let entry = vmcs::controls::control_word(pairs[4], olds[4], ENTRY_SET, 0);
-    [pin, primary, secondary, exit, entry]
+    let demands = demands(f);
+    std::array::from_fn(|i| {
+        vmcs::controls::control_word(pairs[i], olds[i], demands[i].set, demands[i].clear)
+    })
 }
 
 // ---- the fields
 
 // setup_vmcs_host
-fn set_host(v: Vmcs, h: HostWords) -> Vmcs
-    ensures { result ≡ host_set v h }
+fn set_host(v: &mut Vmcs, h: HostWords)
+    ensures { v.new ≡ host_set v.old h }
 {
-    let mut v = v;
     v.w64[VmcsHost64::IA32_PAT] = h.pat;
     v.w64[VmcsHost64::IA32_EFER] = h.efer;
     v.natural[VmcsHostNW::CR0] = h.cr0;
@@ -279,127 +282,112 @@ fn set_host(v: Vmcs, h: HostWords) -> Vmcs
     v.natural[VmcsHostNW::IA32_SYSENTER_ESP] = 0;
     v.natural[VmcsHostNW::IA32_SYSENTER_EIP] = 0;
     v.w32[VmcsHost32::IA32_SYSENTER_CS] = 0;
-    v
 }
 
 // The fields of set_cr, for CR0 and for CR4
-fn set_crs(v: Vmcs, cr0: CrWords, cr4: CrWords) -> Vmcs
-    ensures { result ≡ cr_set v cr0 cr4 }
+fn set_crs(v: &mut Vmcs, cr0: CrWords, cr4: CrWords)
+    ensures { v.new ≡ cr_set v.old cr0 cr4 }
 {
-    let mut v = v;
     v.natural[VmcsGuestNW::CR0] = cr0.value;
     v.natural[VmcsControlNW::CR0_READ_SHADOW] = cr0.shadow;
     v.natural[VmcsControlNW::CR0_GUEST_HOST_MASK] = cr0.mask;
     v.natural[VmcsGuestNW::CR4] = cr4.value;
     v.natural[VmcsControlNW::CR4_READ_SHADOW] = cr4.shadow;
     v.natural[VmcsControlNW::CR4_GUEST_HOST_MASK] = cr4.mask;
-    v
 }
 
-// The places of a segment's four fields.
+// The places of a segment's four fields, and its access rights.
 #[derive(Clone, Copy)]
 struct Segment {
     selector: usize,
     base: usize,
     limit: usize,
     rights: usize,
+    access: u32,
 }
 
-impl Segment {
-    const ES: Segment = Segment {
+const SEGMENTS: [Segment; 8] = [
+    Segment {
         selector: VmcsGuest16::ES_SELECTOR,
         base: VmcsGuestNW::ES_BASE,
         limit: VmcsGuest32::ES_LIMIT,
         rights: VmcsGuest32::ES_ACCESS_RIGHTS,
-    };
-
-    const CS: Segment = Segment {
+        access: 0x93,
+    },
+    Segment {
         selector: VmcsGuest16::CS_SELECTOR,
         base: VmcsGuestNW::CS_BASE,
         limit: VmcsGuest32::CS_LIMIT,
         rights: VmcsGuest32::CS_ACCESS_RIGHTS,
-    };
-
-    const SS: Segment = Segment {
+        access: 0x9B,
+    },
+    Segment {
         selector: VmcsGuest16::SS_SELECTOR,
         base: VmcsGuestNW::SS_BASE,
         limit: VmcsGuest32::SS_LIMIT,
         rights: VmcsGuest32::SS_ACCESS_RIGHTS,
-    };
-
-    const DS: Segment = Segment {
+        access: 0x93,
+    },
+    Segment {
         selector: VmcsGuest16::DS_SELECTOR,
         base: VmcsGuestNW::DS_BASE,
         limit: VmcsGuest32::DS_LIMIT,
         rights: VmcsGuest32::DS_ACCESS_RIGHTS,
-    };
-
-    const FS: Segment = Segment {
+        access: 0x93,
+    },
+    Segment {
         selector: VmcsGuest16::FS_SELECTOR,
         base: VmcsGuestNW::FS_BASE,
         limit: VmcsGuest32::FS_LIMIT,
         rights: VmcsGuest32::FS_ACCESS_RIGHTS,
-    };
-
-    const GS: Segment = Segment {
+        access: 0x93,
+    },
+    Segment {
         selector: VmcsGuest16::GS_SELECTOR,
         base: VmcsGuestNW::GS_BASE,
         limit: VmcsGuest32::GS_LIMIT,
         rights: VmcsGuest32::GS_ACCESS_RIGHTS,
-    };
-
-    const TR: Segment = Segment {
+        access: 0x93,
+    },
+    Segment {
         selector: VmcsGuest16::TR_SELECTOR,
         base: VmcsGuestNW::TR_BASE,
         limit: VmcsGuest32::TR_LIMIT,
         rights: VmcsGuest32::TR_ACCESS_RIGHTS,
-    };
-
-    const LDTR: Segment = Segment {
+        access: 0x8B,
+    },
+    Segment {
         selector: VmcsGuest16::LDTR_SELECTOR,
         base: VmcsGuestNW::LDTR_BASE,
         limit: VmcsGuest32::LDTR_LIMIT,
         rights: VmcsGuest32::LDTR_ACCESS_RIGHTS,
-    };
-}
+        access: 0x82,
+    },
+];
 
 // set_guest_segment!
-fn set_segment(v: Vmcs, g: Segment, access: u32) -> Vmcs
-    requires { (g.selector < 17) × (g.base < 46) × (g.limit < 50) × (g.rights < 50) }
-    ensures { result ≡ applied (segment_writes (Word16 g.selector) (Natural g.base) (Word32 g.limit) (Word32 g.rights) access) v }
+fn set_segment(v: &mut Vmcs, g: Segment)
+    requires { InRange g }
+    ensures { v.new ≡ applied (writes_of g) v.old }
 {
-    let selector = g.selector;
-    let base = g.base;
-    let limit = g.limit;
-    let rights = g.rights;
-    let mut v = v;
-    v.w16[selector] = 0;
-    v.natural[base] = 0;
-    v.w32[limit] = 0xFFFF;
-    v.w32[rights] = access;
-    v
+    v.w16[g.selector] = 0;
+    v.natural[g.base] = 0;
+    v.w32[g.limit] = 0xFFFF;
+    v.w32[g.rights] = g.access;
 }
 
-// The eight segments
-fn set_segments(v: Vmcs) -> Vmcs
-    ensures { result ≡ segments_set v }
+fn set_segments(v: &mut Vmcs)
+    ensures { v.new ≡ segments_set v.old }
 {
-    let v = set_segment(v, Segment::ES, 0x93);
-    let v = set_segment(v, Segment::CS, 0x9B);
-    let v = set_segment(v, Segment::SS, 0x93);
-    let v = set_segment(v, Segment::DS, 0x93);
-    let v = set_segment(v, Segment::FS, 0x93);
-    let v = set_segment(v, Segment::GS, 0x93);
-    let v = set_segment(v, Segment::TR, 0x8B);
-    let v = set_segment(v, Segment::LDTR, 0x82);
-    v
+    for g in SEGMENTS {
+        set_segment(v, g);
+    }
 }
 
 // The rest of setup_vmcs_guest
-fn set_guest(v: Vmcs, entry: u64, pat: u64) -> Vmcs
-    ensures { result ≡ guest_set v entry pat }
+fn set_guest(v: &mut Vmcs, entry: u64, pat: u64)
+    ensures { v.new ≡ guest_set v.old entry pat }
 {
-    let mut v = v;
     v.natural[VmcsGuestNW::GDTR_BASE] = 0;
     v.w32[VmcsGuest32::GDTR_LIMIT] = 0xFFFF;
     v.natural[VmcsGuestNW::IDTR_BASE] = 0;
@@ -420,14 +408,12 @@ fn set_guest(v: Vmcs, entry: u64, pat: u64) -> Vmcs
     v.w64[VmcsGuest64::IA32_DEBUGCTL] = 0;
     v.w64[VmcsGuest64::IA32_PAT] = pat;
     v.w64[VmcsGuest64::IA32_EFER] = 0;
-    v
 }
 
 // setup_vmcs_control, with the five words and the EPT pointer made
-fn set_control(v: Vmcs, words: [u32; 5], eptp: u64, a: Addresses) -> Vmcs
-    ensures { result ≡ control_set v words eptp a }
+fn set_control(v: &mut Vmcs, words: [u32; 5], eptp: u64, a: Addresses)
+    ensures { v.new ≡ control_set v.old words eptp a }
 {
-    let mut v = v;
     v.w32[VmcsControl32::PINBASED_EXEC_CONTROLS] = words[0];
     v.w32[VmcsControl32::PRIMARY_PROCBASED_EXEC_CONTROLS] = words[1];
     v.w32[VmcsControl32::SECONDARY_PROCBASED_EXEC_CONTROLS] = words[2];
@@ -442,7 +428,6 @@ fn set_control(v: Vmcs, words: [u32; 5], eptp: u64, a: Addresses) -> Vmcs
     v.w64[VmcsControl64::IO_BITMAP_A_ADDR] = a.bitmapa;
     v.w64[VmcsControl64::IO_BITMAP_B_ADDR] = a.bitmapb;
     v.w64[VmcsControl64::MSR_BITMAPS_ADDR] = a.bitmapmsr;
-    v
 }
 
 // CR0 at reset (SDM 3A, 9.1.1): NW, CD and ET.
@@ -454,36 +439,28 @@ const ET: u64 = 1 << Cr0Flags::EXTENSION_TYPE;
 
 // All that setup_vmcs writes.
 #[tactic(auto, unfolding(crate::specs::Writes::setup_writes))]
-fn set_vmcs(v: Vmcs, a: Arguments) -> Vmcs
-    ensures { result ≡ vmcs_set v a }
+fn set_vmcs(v: &mut Vmcs, a: Arguments)
+    ensures { v.new ≡ vmcs_set v.old a }
 {
     let m = a.msrs;
     let cr0 = vmcs::controls::cr0_words(m.cr0fixed0, m.cr0fixed1, NW | CD | ET);
     let cr4 = vmcs::controls::cr4_words(m.cr4fixed0, m.cr4fixed1, 0);
-    let features = a.features;
-    let words = setup_words(pairs_of(m), olds_of(m), features);
-    let addresses = a.addresses;
-    let eptp = structs::ept_pointer(addresses.eptroot);
-    let words_of_host = a.host;
-    let host = set_host(v, words_of_host);
-    let crs = set_crs(host, cr0, cr4);
-    let segments = set_segments(crs);
-    let guest = set_guest(segments, a.entry, a.pat);
-    set_control(guest, words, eptp, addresses)
+    let words = setup_words(pairs_of(m), olds_of(m), a.features);
+    let eptp = structs::ept_pointer(a.addresses.eptroot);
+    set_host(v, a.host);
+    set_crs(v, cr0, cr4);
+    set_segments(v);
+    set_guest(v, a.entry, a.pat);
+    set_control(v, words, eptp, a.addresses);
 }
 
 // ---- setup
 
-fn pair_consistent(p: Pair) -> bool
-    ensures { result ≡ pair_consistent p }
+// What must be 1 may be 1.
+fn is_within(must: u64, may: u64) -> bool
+    ensures { result ≡ eqb (bit_and must may) must }
 {
-    p.allowed0 & p.allowed1 == p.allowed0
-}
-
-fn fixed_consistent(f: Fixed) -> bool
-    ensures { result ≡ fixed_consistent f }
-{
-    f.fixed0 & f.fixed1 == f.fixed0
+    must & may == must
 }
 
 // No bit must be 1 that may not be.
@@ -491,36 +468,31 @@ fn fixed_consistent(f: Fixed) -> bool
 fn capabilities_consistent(c: Capabilities) -> bool
     ensures { result ≡ consistent c }
 {
-    pair_consistent(c.pairs[0])
-        & pair_consistent(c.pairs[1])
-        & pair_consistent(c.pairs[2])
-        & pair_consistent(c.pairs[3])
-        & pair_consistent(c.pairs[4])
-        & fixed_consistent(c.cr0)
-        & fixed_consistent(c.cr4)
+    c.pairs.iter().all(|p| is_within(u64::from(p.allowed0), u64::from(p.allowed1)))
+        && is_within(c.cr0.fixed0, c.cr0.fixed1)
+        && is_within(c.cr4.fixed0, c.cr4.fixed1)
 }
 
-// 6, inconsistent capabilities; 8 or 9, a word that cannot be had; or 0.
-pub fn capability_refusal(c: Capabilities, f: Features) -> u32
-    ensures { result ≡ capability_refusal c f }
+// 6, inconsistent capabilities; 8 or 9, a word that cannot be had.
+pub fn capability_refusal(c: Capabilities, f: Features) -> Result<(), Refusal>
+    ensures { refusal_of result ≡ capability_refusal c f }
 {
-    if capabilities_consistent(c) {
-        let pairs = c.pairs;
-        return words_refusal(pairs, f);
+    if !capabilities_consistent(c) {
+        return Err(Refusal::Pair);
     }
-    Refusal::PAIR
+    words_refusal(c.pairs, f)
 }
 
-// 2; 1, not fresh; then those of the capabilities; or 0.
+// 2; 1, not fresh; then those of the capabilities.
 #[tactic(auto, unfolding(crate::specs::Setup::setup_refusal))]
-fn setup_refusal(s: Session, c: Capabilities, f: Features) -> u32
-    ensures { result ≡ setup_refusal s c f }
+fn setup_refusal(s: Session, c: Capabilities, f: Features) -> Result<(), Refusal>
+    ensures { refusal_of result ≡ setup_refusal s c f }
 {
     if vcpu_session::is_unlawful(s) {
-        return Refusal::BYTES;
+        return Err(Refusal::Bytes);
     }
     if s.progress.phase != Phase::FRESH {
-        return Refusal::PHASE;
+        return Err(Refusal::Phase);
     }
     capability_refusal(c, f)
 }
@@ -533,40 +505,23 @@ const X87: u64 = 1 << XCr0Flags::X87;
 pub fn ready(s: Session, a: Arguments, c: Capabilities) -> Session
     ensures { result ≡ readied s a c }
 {
-    let fields = s.vmcs;
-    let written = set_vmcs(fields, a);
-    let mut progress = s.progress;
-    progress.phase = Phase::READY;
-    let xcr0 = Xcr0 {
+    let mut next = s;
+    next.progress.phase = Phase::READY;
+    set_vmcs(&mut next.vmcs, a);
+    next.capabilities = c;
+    next.xcr0 = Xcr0 {
         value: X87,
         supported: a.xcr0supported,
     };
-    let mut next = s;
-    next.progress = progress;
-    next.vmcs = written;
-    next.capabilities = c;
-    next.xcr0 = xcr0;
     next
 }
 
 // Refusals: 2; 1, not fresh; 6, a pair or fixed bits that contradict themselves; then 8 or 9, word by word.
-#[tactic(auto, unfolding(crate::specs::Setup::setup_of))]
-pub fn setup(s: Session, a: Arguments) -> Answered
-    ensures { result ≡ setup_of s a }
+#[tactic(auto, using(definitions::proofs::RefusalLaws::some_at), unfolding(crate::specs::Setup::setup_of))]
+pub fn setup(s: Session, a: Arguments) -> Result<Session, Refusal>
+    ensures { answered_from s result ≡ setup_of s a }
 {
-    let msrs = a.msrs;
-    let features = a.features;
-    let capabilities = capabilities_of(msrs);
-    let refusal = setup_refusal(s, capabilities, features);
-    if refusal == 0 {
-        let next = ready(s, a, capabilities);
-        return Answered {
-            refusal: 0,
-            session: next,
-        };
-    }
-    Answered {
-        refusal: refusal,
-        session: s,
-    }
+    let capabilities = capabilities_of(a.msrs);
+    setup_refusal(s, capabilities, a.features)?;
+    Ok(ready(s, a, capabilities))
 }

@@ -13,7 +13,7 @@ use borrow.Author.Tests.{eqb-true, eqb-false}
 use Rattle.bits.specs.Words.{bit_not, bit, Within, Apart, Permitted}
 use Rattle.vmcs.specs.Control.{control_word, set_control, word_permitted, all_permitted, pair_at, Accepted, Answers, Outcome, six, seven, eight, nine, accepted, EachPermitted}
 use Rattle.vmcs.specs.declared.controls.Pair.{Pair}
-use Rattle.vmcs.specs.declared.controls.ControlAnswer.TheVariants.{Word, Refused}
+use Rattle.std.specs.Prelude.{Result, Ok, Err}
 use Rattle.bits.proofs.BitLaws.{bit-and, bit-or, bit-not}
 use Rattle.bits.proofs.WordLaws as W
 use Rattle.bits.proofs.WordLaws.{words, word_tests}
@@ -58,7 +58,7 @@ outcome w allowed0 allowed1 old set clear =
         → (r ≡ true → Within set allowed1) → (r ≡ false → Within set allowed1 → ⊥)
         → (s ≡ true → Apart allowed0 clear) → (s ≡ false → Apart allowed0 clear → ⊥)
         → Outcome allowed0 allowed1 set clear (control_word w allowed0 allowed1 old set clear)
-        (cond (not p) (Refused 6) (cond (not q) (Refused 7) (cond (not r) (Refused 8) (cond (not s) (Refused 9) (Word (control_word w allowed0 allowed1 old set clear))))))
+        (cond (not p) (Err 6) (cond (not q) (Err 7) (cond (not r) (Err 8) (cond (not s) (Err 9) (Ok (control_word w allowed0 allowed1 old set clear))))))
     go false q r s p1 p0 q1 q0 r1 r0 s1 s0 = six (p0 refl)
     go true false r s p1 p0 q1 q0 r1 r0 s1 s0 = seven (p1 refl) (q0 refl)
     go true true false s p1 p0 q1 q0 r1 r0 s1 s0 = eight (p1 refl) (q1 refl) (r0 refl)
@@ -76,7 +76,7 @@ control_permitted w allowed0 allowed1 old set clear consistent settable =
 
 -- an answer that is a word comes of four tests that all passed
 passed : (a b c d : Bool) (x v : ℕ)
-    → cond (not a) (Refused 6) (cond (not b) (Refused 7) (cond (not c) (Refused 8) (cond (not d) (Refused 9) (Word x)))) ≡ Word v
+    → cond {A = Result ℕ ℕ} (not a) (Err 6) (cond (not b) (Err 7) (cond (not c) (Err 8) (cond (not d) (Err 9) (Ok x)))) ≡ Ok v
     → (a ≡ true) × (b ≡ true) × (c ≡ true) × (d ≡ true) × (x ≡ v)
 passed true true true true x v e = (refl, refl, refl, refl, cc)
 passed true true true false x v e = absurd (let z : ◌≡◌ {A = ℕ} 0 1 = cc in omega arith)
@@ -129,7 +129,7 @@ module _ (w allowed0 allowed1 old set clear : ℕ)
 
 -- a word that is answered is as the manual asks: the theorem to cite
 pub accepted_holds : (w allowed0 allowed1 old set clear v : ℕ) → allowed0 < 2 ^ w → allowed1 < 2 ^ w → set < 2 ^ w → clear < 2 ^ w
-    → set_control w allowed0 allowed1 old set clear ≡ Word v → Accepted allowed0 allowed1 old set clear v
+    → set_control w allowed0 allowed1 old set clear ≡ Ok v → Accepted allowed0 allowed1 old set clear v
 unfolding set_control
 accepted_holds w allowed0 allowed1 old set clear v h0 h1 hs hc e =
     let p = passed (eqb (bit_and allowed0 allowed1) allowed0) (eqb (bit_and set clear) 0) (eqb (bit_and set allowed1) set) (eqb (bit_and allowed0 clear) 0)

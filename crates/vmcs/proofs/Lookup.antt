@@ -10,7 +10,8 @@ use borrow.Author.Tests.{eqb-true, eqb-false, leb-false, ltb-true, ltb-false}
 use Rattle.bits.proofs.AllBelow.{below, at}
 use Rattle.bits.proofs.WordLaws.{and_l, and_r}
 use Rattle.vmcs.specs.Named.{named, encodings}
-use Rattle.vmcs.specs.Fields.{position_of}
+use Rattle.std.specs.Prelude.{Option, Some, None}
+use Rattle.vmcs.specs.Fields.{position_of, place_in_table}
 use Rattle.vmcs.specs.Lookup.{start_of, count_of, lookup}
 use Rattle.vmcs.proofs.Scan.{position_le}
 use Rattle.vmcs.proofs.TableTest.{table, each_listed}
@@ -93,3 +94,12 @@ module _ (e : ℕ) where
           let most : position_of encodings e ≤ 154 = rw table.0 at (position_le encodings e) in
           omega (arith, ltb-false (position_of encodings e) 154 a)
       go false a (inr h) = sym (first (lookup e) h.within) ∙ ap (position_of encodings) h.here
+
+-- a place that is answered is within the table, and the encoding's
+pub place_known : (e p : ℕ) → Some p ≡ place_in_table e → (p < 154) × (p ≡ position_of encodings e)
+unfolding place_in_table
+place_known e p = go (ltb (position_of encodings e) 154) refl
+  where
+    go : (t : Bool) → ltb (position_of encodings e) 154 ≡ t → ◌≡◌ {A = Option ℕ} (Some p) (cond t (Some (position_of encodings e)) None) → (p < 154) × (p ≡ position_of encodings e)
+    go true t h = let same : p ≡ position_of encodings e = cc in (omega (arith, ltb-true _ _ t), same)
+    go false t h = cc

@@ -1,16 +1,19 @@
 -- Reading and writing a field by its encoding (document 01, "Fields"; SDM 3D, appendix B). Assumes nothing.
-use Rattle.std.specs.Prelude.{ℕ, zero, suc, ◌-◌, ◌/◌, ◌%◌, ◌^◌, Bool, cond, List, [], ◌∷◌, eqb, ltb, leb}
+use Rattle.std.specs.Prelude.{ℕ, zero, suc, ◌-◌, ◌/◌, ◌%◌, ◌^◌, Bool, cond, List, [], ◌∷◌, Option, Some, None, Result, Ok, Err, eqb, ltb, leb}
+use Rattle.definitions.specs.Refusals.{number}
+use Rattle.definitions.specs.declared.refusal.Refusal.{Refusal}
 use Rattle.vmcs.specs.Field.{Field, Word16, Word64, Word32, Natural, value_of, put}
 use Rattle.vmcs.specs.Named.{encodings}
 use Rattle.vmcs.specs.declared.Vmcs.{Vmcs}
-use Rattle.vmcs.specs.declared.FieldAnswer.{FieldAnswer}
-use Rattle.vmcs.specs.declared.FieldAnswer.TheVariants.{Value, Refused}
-use Rattle.vmcs.specs.declared.Written.{Written}
 
 -- the place of the first entry that equals x; the table's length where none does
 abbrev pub position_of : List ℕ → ℕ → ℕ
 position_of [] x = zero
 position_of (e ∷ es) x = cond (eqb e x) zero (suc (position_of es x))
+
+-- the place of a number in the table of encodings, where it has one
+unfoldable pub place_in_table : ℕ → Option ℕ
+place_in_table encoding = cond (ltb (position_of encodings encoding) 154) (Some (position_of encodings encoding)) None
 
 -- the field at a place of the table, where the widths stand in the order 16, 64, 32, natural
 unfoldable pub field_at : ℕ → Field
@@ -40,8 +43,13 @@ abbrev pub read_only : ℕ → Bool
 read_only encoding = eqb (encoding / 2 ^ 10 % 4) 1
 
 -- 3: no such encoding
-unfoldable pub vmcs_read : Vmcs → ℕ → FieldAnswer
-vmcs_read v encoding = cond (ltb (position_of encodings encoding) 154) (Value (value_of v (field_of encoding))) (Refused 3)
+unfoldable pub vmcs_read : Vmcs → ℕ → Result ℕ ℕ
+vmcs_read v encoding = cond (ltb (position_of encodings encoding) 154) (Ok (value_of v (field_of encoding))) (Err 3)
+
+-- the number of a write, and the fields after it: as they were where it is refused
+pub record Written : Type 0 where
+  pub refusal : ℕ
+  pub vmcs : Vmcs
 
 abbrev pub written : ℕ → Vmcs → Written
 written n v = record { refusal = n; vmcs = v }
@@ -61,3 +69,8 @@ vmcs_write v encoding x =
     (cond (read_only encoding) (written 4 v)
     (cond (ltb (greatest_of encoding) x) (written 5 v)
     (written 0 (put v (field_of encoding) x))))
+
+-- a write's answer in the code, beside the fields that came in
+abbrev pub written_from : Vmcs → Result Vmcs Refusal → Written
+written_from v (Ok next) = written 0 next
+written_from v (Err e) = written (number e) v

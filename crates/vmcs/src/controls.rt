@@ -2,9 +2,10 @@
 // Ported from `set_control` and `update_efer` of x86_vcpu src/vmx/vmcs.rs, and `set_cr` of src/vmx/vcpu.rs (Copyright 2025 The Axvisor Team, Apache-2.0).
 // Changed: capability words come in as numbers, results go out and are not written to fields, and what the Rust panics at is refused by a number.
 ghost use Rattle.std.specs.Prelude.{◌≡◌};
+ghost use Rattle.definitions.specs.Refusals.{numbered};
 ghost use Rattle.vmcs.specs.Control.{set_control, control_word, word_permitted, all_permitted};
 ghost use Rattle.vmcs.specs.Cr.{cr_words, cr0_words, cr4_words};
-ghost use Rattle.vmcs.specs.Efer.{is_long_mode, lacks_ia32e, update_efer};
+ghost use Rattle.vmcs.specs.Efer.{is_long_mode, lacks_ia32e, update_efer, updated_from};
 
 use crate::flags::{Cr0Flags, Cr4Flags, EferFlags, EntryControls};
 use definitions::Refusal;
@@ -14,13 +15,6 @@ use definitions::Refusal;
 pub struct Pair {
     pub allowed0: u32,
     pub allowed1: u32,
-}
-
-// A control word, or the number of the refusal.
-#[derive(Clone, Copy)]
-pub enum ControlAnswer {
-    Word(u32),
-    Refused(u32),
 }
 
 // The word with the bits of set set and those of clear cleared: what is flexible and neither keeps its old value (SDM 3D, A.2 to A.5; the Rust cites 31.5.1, algorithm 3, of an older edition).
@@ -37,22 +31,22 @@ pub fn control_word(pair: Pair, old: u32, set: u32, clear: u32) -> u32
 // Refusals: 6, allowed-0 has a bit that allowed-1 lacks; 7, set and clear share a bit; 8, a set bit is not in allowed-1; 9, a cleared
 // bit is in allowed-0.
 #[tactic(auto, unfolding(crate::specs::Control::set_control))]
-pub fn set_control(pair: Pair, old: u32, set: u32, clear: u32) -> ControlAnswer
-    ensures { result ≡ set_control 32 pair.allowed0 pair.allowed1 old set clear }
+pub fn set_control(pair: Pair, old: u32, set: u32, clear: u32) -> Result<u32, Refusal>
+    ensures { numbered result ≡ set_control 32 pair.allowed0 pair.allowed1 old set clear }
 {
     if pair.allowed0 & pair.allowed1 != pair.allowed0 {
-        return ControlAnswer::Refused(Refusal::PAIR);
+        return Err(Refusal::Pair);
     }
     if set & clear != 0 {
-        return ControlAnswer::Refused(Refusal::SET_AND_CLEAR);
+        return Err(Refusal::SetAndClear);
     }
     if set & pair.allowed1 != set {
-        return ControlAnswer::Refused(Refusal::SET);
+        return Err(Refusal::Set);
     }
     if pair.allowed0 & clear != 0 {
-        return ControlAnswer::Refused(Refusal::CLEAR);
+        return Err(Refusal::Clear);
     }
-    ControlAnswer::Word(control_word(pair, old, set, clear))
+    Ok(control_word(pair, old, set, clear))
 }
 
 // Whether a word has all of allowed-0 and nothing outside allowed-1.
@@ -130,10 +124,9 @@ pub fn cr4_words(fixed0: u64, fixed1: u64, val: u64) -> CrWords
     cr_words(fixed1, fixed0, val | VMXE)
 }
 
-// EFER and the entry controls after paging is turned on: as they were where it is refused.
-#[derive(Clone, Copy)]
-pub struct EferUpdate {
-    pub refusal: u32,
+// EFER and the entry controls after paging is turned on.
+#[derive(Clone, Copy, Debug, PartialEq, Eq)]
+pub struct EferWords {
     pub efer: u64,
     pub entry: u32,
 }
@@ -157,27 +150,18 @@ fn lacks_ia32e(pair: Pair) -> bool
 // Unless LME and LMA are both set: LMA is set, unnamed bits of EFER go, and the entry word gets IA-32e mode guest. Refusal 8: the pair does
 // not allow that.
 #[tactic(auto, unfolding(crate::specs::Efer::update_efer))]
-pub fn update_efer(pair: Pair, efer: u64, entry: u32) -> EferUpdate
-    ensures { result ≡ update_efer pair efer entry }
+pub fn update_efer(pair: Pair, efer: u64, entry: u32) -> Result<EferWords, Refusal>
+    ensures { updated_from efer entry result ≡ update_efer pair efer entry }
 {
     if is_long_mode(efer) {
-        return EferUpdate {
-            refusal: 0,
-            efer: efer,
-            entry: entry,
-        };
+        return Ok(EferWords { efer, entry });
     }
     if lacks_ia32e(pair) {
-        return EferUpdate {
-            refusal: Refusal::SET,
-            efer: efer,
-            entry: entry,
-        };
-    }
-    let word = control_word(pair, entry, IA32E_MODE_GUEST, 0);
-    EferUpdate {
-        refusal: 0,
-        efer: efer & EFER_NAMED | LMA,
-        entry: word,
+        Err(Refusal::Set)
+    } else {
+        Ok(EferWords {
+            efer: efer & EFER_NAMED | LMA,
+            entry: control_word(pair, entry, IA32E_MODE_GUEST, 0),
+        })
     }
 }

@@ -3,10 +3,11 @@
 // and not reached by vmread and vmwrite, and what the Rust panics at is refused by a number.
 #![tactic(auto)]
 
-ghost use Rattle.std.specs.Prelude.{◌≡◌, ◌<◌, ◌^◌, ◌-◌};
+ghost use Rattle.std.specs.Prelude.{◌≡◌, ◌<◌, ◌^◌, ◌-◌, IfOk};
+ghost use Rattle.definitions.specs.Refusals.{numbered, refusal_of};
 ghost use Rattle.vmcs.specs.Field.{width_bits, value_of, put};
 ghost use Rattle.vmcs.specs.Named.{encodings};
-ghost use Rattle.vmcs.specs.Fields.{position_of, field_at, width_of, greatest_of, read_only, vmcs_read, write_refusal, vmcs_write};
+ghost use Rattle.vmcs.specs.Fields.{position_of, place_in_table, field_at, width_of, greatest_of, read_only, vmcs_read, write_refusal, vmcs_write, written_from};
 
 pub mod controls;
 pub mod exit_info;
@@ -25,41 +26,27 @@ pub struct Vmcs {
     pub natural: [u64; 46],
 }
 
-// What a field holds, or the number of the refusal.
-#[derive(Clone, Copy)]
-pub enum FieldAnswer {
-    Value(u64),
-    Refused(u32),
-}
-
-// The fields after a write: as they were where it is refused.
-#[derive(Clone, Copy)]
-pub struct Written {
-    pub refusal: u32,
-    pub vmcs: Vmcs,
-}
-
-// The place of an encoding in the table, or 154 where it has none. The fields of a width and kind have the indexes from 0 on
-// without a gap, except that no field is 0x482C, so 0x482E is tested by itself.
+// The place of an encoding in the table. The fields of a width and kind have the indexes from 0 on without a gap, except that no field is 0x482C, so
+// 0x482E is tested by itself.
 #[tactic(auto, unfolding(crate::specs::Lookup::lookup))]
-pub fn position(encoding: u64) -> usize
-    ensures { result ≡ position_of encodings encoding }
+pub fn position(encoding: u64) -> Option<usize>
+    ensures { result ≡ place_in_table encoding }
 {
     if encoding == 0x482E {
-        return 106;
+        return Some(106);
     }
     if 0x8000 <= encoding {
-        return 154;
+        return None;
     }
     if encoding % 2 == 1 {
-        return 154;
+        return None;
     }
     let group = encoding >> 10;
     let index = (encoding >> 1) % 512;
     if table::count_of(group) <= index {
-        return 154;
+        return None;
     }
-    (table::start_of(group) + index) as usize
+    Some((table::start_of(group) + index) as usize)
 }
 
 // The width in bits of an encoding's field, by ranges of encodings, an arm for each section of SDM 3D, appendix B. The natural
@@ -141,49 +128,38 @@ fn put_at(v: Vmcs, place: usize, value: u64) -> Vmcs
 }
 
 // A field by its encoding. Refusal 3: no such encoding.
-#[tactic(auto, unfolding(crate::specs::Fields::vmcs_read))]
-pub fn vmcs_read(v: Vmcs, encoding: u64) -> FieldAnswer
-    ensures { result ≡ vmcs_read v encoding }
+#[tactic(auto, unfolding(crate::specs::Fields::vmcs_read, crate::specs::Fields::place_in_table))]
+pub fn vmcs_read(v: Vmcs, encoding: u64) -> Result<u64, Refusal>
+    ensures { numbered result ≡ vmcs_read v encoding }
 {
-    let place = position(encoding);
-    if place < 154 {
-        return FieldAnswer::Value(value_at(v, place));
+    match position(encoding) {
+        Some(place) => Ok(value_at(v, place)),
+        None => Err(Refusal::Encoding),
     }
-    FieldAnswer::Refused(Refusal::ENCODING)
 }
 
-// Why a write of a value is refused, or 0. Refusals: 3, no such encoding; 4, read-only; 5, the value is wider than the field.
-#[tactic(auto, unfolding(crate::specs::Fields::write_refusal))]
-pub fn write_refusal(encoding: u64, value: u64) -> u32
-    ensures { result ≡ write_refusal encoding value }
+// The place at which a value may be written. Refusals: 3, no such encoding; 4, read-only; 5, the value is wider than the field.
+#[tactic(auto, unfolding(crate::specs::Fields::write_refusal, crate::specs::Fields::place_in_table))]
+pub fn place_to_write(encoding: u64, value: u64) -> Result<usize, Refusal>
+    ensures refusal { refusal_of result ≡ write_refusal encoding value }
+    ensures place { IfOk result (λ place. place ≡ position_of encodings encoding) }
 {
-    if 154 <= position(encoding) {
-        return Refusal::ENCODING;
-    }
+    let Some(place) = position(encoding) else {
+        return Err(Refusal::Encoding);
+    };
     if read_only(encoding) {
-        return Refusal::READ_ONLY;
+        return Err(Refusal::ReadOnly);
     }
     if greatest_of(encoding) < value {
-        return Refusal::WIDTH;
+        return Err(Refusal::Width);
     }
-    0
+    Ok(place)
 }
 
 // The fields with a value in one of them. Refusals: 3, 4, 5.
-pub fn vmcs_write(v: Vmcs, encoding: u64, value: u64) -> Written
-    ensures { result ≡ vmcs_write v encoding value }
+pub fn vmcs_write(v: Vmcs, encoding: u64, value: u64) -> Result<Vmcs, Refusal>
+    ensures { written_from v result ≡ vmcs_write v encoding value }
 {
-    let refusal = write_refusal(encoding, value);
-    if refusal != 0 {
-        return Written {
-            refusal: refusal,
-            vmcs: v,
-        };
-    }
-    let place = position(encoding);
-    let next = put_at(v, place, value);
-    Written {
-        refusal: 0,
-        vmcs: next,
-    }
+    let place = place_to_write(encoding, value)?;
+    Ok(put_at(v, place, value))
 }

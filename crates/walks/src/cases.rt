@@ -1,5 +1,5 @@
 // Walks with all that they depend on. Of each entry its place is printed, and then what is stored there.
-use crate::{Access, MEMORY};
+use crate::{Access, MEMORY, Way};
 use record::Record;
 use std::io;
 
@@ -8,29 +8,43 @@ const ALL: u64 = 0xFFFF_FFFF_FFFF_FFFF;
 // An open entry of the last page of all.
 const FAR: u64 = 0xF_FFFF_FFFF_F007;
 
-// Entries of pages 1 to 4, at one place in the first page and at another in the next ones. 0 is stored nowhere.
+// A walk in a memory that ends at a length.
 #[derive(Clone, Copy)]
-struct Path {
+struct Case<'a> {
+    access: Access,
+    cr3: u64,
+    address: u64,
+    // Entries of pages 1 to 4, at one place in the first page and at another in the next ones.
+    entries: &'a [u64],
     first: usize,
     next: usize,
-    a: u64,
-    b: u64,
-    c: u64,
-    d: u64,
+    length: usize,
 }
 
-fn lay(
-    rt: &impl Print,
-    memory: &mut [u8; MEMORY],
-    levels: u8,
-    at: usize,
-    entry: u64,
-) -> io::Result<()> {
-    if entry != 0 {
-        crate::put_entry(memory, levels, at, entry);
-        print!(rt; " {at:x} {entry:x}")?;
+impl Case<'_> {
+    fn print(&self, rt: &impl Print) -> io::Result<()> {
+        let Case {
+            access,
+            cr3,
+            address,
+            ..
+        } = *self;
+        let levels = access.levels;
+        print!(rt; "{levels} levels, {access}, CR3 {cr3:x}, address {address:x}, entries")?;
+        let mut memory = [0u8; MEMORY];
+        let places = [
+            0x1000 | self.first,
+            0x2000 | self.next,
+            0x3000 | self.next,
+            0x4000 | self.next,
+        ];
+        for (at, entry) in places.iter().zip(self.entries) {
+            crate::put_entry(&mut memory, levels, *at, *entry);
+            print!(rt; " {at:x} {entry:x}")?;
+        }
+        let bytes = access.record(cr3);
+        print_walk(rt, &bytes, &memory, self.length, address, access.way)
     }
-    Ok(())
 }
 
 fn print_walk(
@@ -39,180 +53,153 @@ fn print_walk(
     memory: &[u8; MEMORY],
     length: usize,
     address: u64,
-    access: u8,
+    way: Way,
 ) -> io::Result<()> {
-    let answer = crate::walk_part(bytes, memory, length, address, access);
+    let answer = crate::walk_part(bytes, memory, length, address, way);
     println!(rt; ", memory of {length:x}: {answer}")
-}
-
-fn case(
-    rt: &impl Print,
-    a: Access,
-    cr3: u64,
-    address: u64,
-    p: Path,
-    length: usize,
-) -> io::Result<()> {
-    let levels = a.levels;
-    print!(rt; "{levels} levels, {a}, CR3 {cr3:x}, address {address:x}, entries")?;
-    let mut memory = [0u8; MEMORY];
-    lay(rt, &mut memory, levels, 0x1000 | p.first, p.a)?;
-    lay(rt, &mut memory, levels, 0x2000 | p.next, p.b)?;
-    lay(rt, &mut memory, levels, 0x3000 | p.next, p.c)?;
-    lay(rt, &mut memory, levels, 0x4000 | p.next, p.d)?;
-    let bytes = a.record(cr3);
-    print_walk(rt, &bytes, &memory, length, address, a.kind)
 }
 
 // ---- The worked cases of the request: reads with NXE.
 
-fn four(rt: &impl Print, flags: u64, a: u64, b: u64, c: u64, d: u64) -> io::Result<()> {
-    let read = Access::of(4, Access::READ, flags | Access::NXE);
-    let p = Path {
-        first: 8,
-        next: 8,
-        a,
-        b,
-        c,
-        d,
-    };
-    case(rt, read, 0x1000, 0x80_4020_1ABC, p, MEMORY)
+fn read(levels: u8, flags: u64) -> Access {
+    Access {
+        levels,
+        way: Way::Read,
+        flags,
+    }
 }
 
-// One entry.
-fn one(
-    rt: &impl Print,
-    levels: u8,
-    flags: u64,
-    cr3: u64,
-    address: u64,
-    at: usize,
-    entry: u64,
-) -> io::Result<()> {
-    let read = Access::of(levels, Access::READ, flags | Access::NXE);
-    let p = Path {
-        first: at,
-        next: 0,
-        a: entry,
-        b: 0,
-        c: 0,
-        d: 0,
+fn four(rt: &impl Print, flags: u64, entries: &[u64]) -> io::Result<()> {
+    let case = Case {
+        access: read(4, flags | Access::NXE),
+        cr3: 0x1000,
+        address: 0x80_4020_1ABC,
+        entries,
+        first: 8,
+        next: 8,
+        length: MEMORY,
     };
-    case(rt, read, cr3, address, p, MEMORY)
+    case.print(rt)
+}
+
+// One entry, with 2 levels.
+fn two(rt: &impl Print, flags: u64) -> io::Result<()> {
+    let case = Case {
+        access: read(2, flags | Access::NXE),
+        cr3: 0x1000,
+        address: 0xC0_1234,
+        entries: &[0x80_2087],
+        first: 0xC,
+        next: 0,
+        length: MEMORY,
+    };
+    case.print(rt)
+}
+
+// One entry, with 3 levels.
+fn three(rt: &impl Print) -> io::Result<()> {
+    let case = Case {
+        access: read(3, Access::NXE),
+        cr3: 0x1020,
+        address: 0,
+        entries: &[0x2003],
+        first: 0x20,
+        next: 0,
+        length: MEMORY,
+    };
+    case.print(rt)
 }
 
 pub fn worked(rt: &impl Print) -> io::Result<()> {
-    for (flags, a, b, c, d) in [
-        (0, 0x2007, 0x3007, 0x4007, 0x5007),
-        (0, 0x2007, 0x3007, 0x2000_0087, 0),
-        (0, 0x2007, 0x3007, 0x2000_2087, 0),
-        (Access::USER, 0x2003, 0, 0, 0),
-        (0, 0xF_FFFF_FFFF_F003, 0, 0, 0),
-        (0, 0x2003, 0xF_FFFF_FFFF_F003, 0, 0),
-    ] {
-        four(rt, flags, a, b, c, d)?;
-    }
-    one(rt, 2, Access::PSE, 0x1000, 0xC0_1234, 0xC, 0x80_2087)?;
-    one(rt, 2, 0, 0x1000, 0xC0_1234, 0xC, 0x80_2087)?;
-    one(rt, 3, 0, 0x1020, 0, 0x20, 0x2003)?;
-    four(rt, Access::SMAP, 0x2007, 0x3007, 0x4007, 0x5007)
+    four(rt, 0, &[0x2007, 0x3007, 0x4007, 0x5007])?;
+    four(rt, 0, &[0x2007, 0x3007, 0x2000_0087])?;
+    four(rt, 0, &[0x2007, 0x3007, 0x2000_2087])?;
+    four(rt, Access::USER, &[0x2003])?;
+    four(rt, 0, &[0xF_FFFF_FFFF_F003])?;
+    four(rt, 0, &[0x2003, 0xF_FFFF_FFFF_F003])?;
+    two(rt, Access::PSE)?;
+    two(rt, 0)?;
+    three(rt)?;
+    four(rt, Access::SMAP, &[0x2007, 0x3007, 0x4007, 0x5007])
 }
 
 // ---- What an entry breaks where the next one lies past the end; and the last entry of every table, with memory that ends where the last of them does and a byte before.
 
-fn last(rt: &impl Print, levels: u8, length: usize, p: Path) -> io::Result<()> {
-    case(
-        rt,
-        Access::of(levels, Access::READ, 0),
-        0x1000,
-        ALL,
-        p,
-        length,
-    )
-}
-
-// With memory that ends here, and a byte before.
-fn last_two(rt: &impl Print, levels: u8, end: usize, p: Path) -> io::Result<()> {
-    last(rt, levels, end, p)?;
-    if end > 0 {
-        last(rt, levels, end - 1, p)?;
+fn last_two(
+    rt: &impl Print,
+    levels: u8,
+    first: usize,
+    entries: &[u64],
+    end: usize,
+) -> io::Result<()> {
+    for length in [end, end.saturating_sub(1)] {
+        let next = if levels == 2 { 0xFFC } else { 0xFF8 };
+        let case = Case {
+            access: read(levels, 0),
+            cr3: 0x1000,
+            address: ALL,
+            entries,
+            first,
+            next,
+            length,
+        };
+        case.print(rt)?;
     }
     Ok(())
 }
 
 pub fn edges(rt: &impl Print) -> io::Result<()> {
-    four(rt, 0, 0xF_FFFF_FFFF_F002, 0, 0, 0)?;
-    four(rt, 0, 0xF_FFFF_FFFF_F083, 0, 0, 0)?;
-    four(rt, Access::USER, 0xF_FFFF_FFFF_F003, 0, 0, 0)?;
-    let four_levels = Path {
-        first: 0xFF8,
-        next: 0xFF8,
-        a: 0x2007,
-        b: 0x3007,
-        c: 0x4007,
-        d: FAR,
-    };
-    last_two(rt, 4, 0x5000, four_levels)?;
-    let three_levels = Path {
-        first: 0x18,
-        next: 0xFF8,
-        a: 0x2001,
-        b: 0x3007,
-        c: FAR,
-        d: 0,
-    };
-    last_two(rt, 3, 0x4000, three_levels)?;
-    let two_levels = Path {
-        first: 0xFFC,
-        next: 0xFFC,
-        a: 0x2007,
-        b: 0xFFFF_F007,
-        c: 0,
-        d: 0,
-    };
-    last_two(rt, 2, 0x3000, two_levels)
+    four(rt, 0, &[0xF_FFFF_FFFF_F002])?;
+    four(rt, 0, &[0xF_FFFF_FFFF_F083])?;
+    four(rt, Access::USER, &[0xF_FFFF_FFFF_F003])?;
+    last_two(rt, 4, 0xFF8, &[0x2007, 0x3007, 0x4007, FAR], 0x5000)?;
+    last_two(rt, 3, 0x18, &[0x2001, 0x3007, FAR], 0x4000)?;
+    last_two(rt, 2, 0xFFC, &[0x2007, 0xFFFF_F007], 0x3000)
 }
 
 // ---- The numbers, and no paging.
 
-fn kind(rt: &impl Print, levels: u8, kind: u8, length: usize) -> io::Result<()> {
-    let p = Path {
-        first: 8,
-        next: 8,
-        a: 0x2007,
-        b: 0x3007,
-        c: 0x4007,
-        d: 0x5007,
-    };
-    case(
-        rt,
-        Access::of(levels, kind, Access::WP),
-        0x1000,
-        0x80_4020_1ABC,
-        p,
-        length,
-    )
-}
-
 pub fn numbers(rt: &impl Print) -> io::Result<()> {
-    for (levels, access, length) in [
-        (4, 0, MEMORY),
-        (4, 1, MEMORY),
-        (4, 2, MEMORY),
-        (4, 3, MEMORY),
-        (4, 255, MEMORY),
-        (4, 3, 0),
-        (4, 0, 0),
-        (3, 0, 0),
-        (2, 0, 0),
-        (0, 0, 0),
-        (0, 1, 0),
-        (0, 2, 0),
-        (0, 3, 0),
+    for (levels, way, length) in [
+        (4, Way::Read, MEMORY),
+        (4, Way::Write, MEMORY),
+        (4, Way::Fetch, MEMORY),
+        (4, Way::Other(3), MEMORY),
+        (4, Way::Other(255), MEMORY),
+        (4, Way::Other(3), 0),
+        (4, Way::Read, 0),
+        (3, Way::Read, 0),
+        (2, Way::Read, 0),
+        (0, Way::Read, 0),
+        (0, Way::Write, 0),
+        (0, Way::Fetch, 0),
+        (0, Way::Other(3), 0),
     ] {
-        kind(rt, levels, access, length)?;
+        let case = Case {
+            access: Access {
+                levels,
+                way,
+                flags: Access::WP,
+            },
+            cr3: 0x1000,
+            address: 0x80_4020_1ABC,
+            entries: &[0x2007, 0x3007, 0x4007, 0x5007],
+            first: 8,
+            next: 8,
+            length,
+        };
+        case.print(rt)?;
     }
-    one(rt, 0, Access::USER, ALL, ALL, 0, 0)
+    let flat = Case {
+        access: read(0, Access::USER | Access::NXE),
+        cr3: ALL,
+        address: ALL,
+        entries: &[],
+        first: 0,
+        next: 0,
+        length: MEMORY,
+    };
+    flat.print(rt)
 }
 
 // ---- The record: its length and its phase.
@@ -220,18 +207,11 @@ pub fn numbers(rt: &impl Print) -> io::Result<()> {
 fn record(rt: &impl Print, bytes: &[u8], phase: u8, length: usize) -> io::Result<()> {
     let memory = crate::memory_of(4, 0);
     print!(rt; "record of {:x}, phase {phase}", bytes.len())?;
-    print_walk(
-        rt,
-        bytes,
-        &memory,
-        length,
-        crate::address_of(4),
-        Access::READ,
-    )
+    print_walk(rt, bytes, &memory, length, crate::address_of(4), Way::Read)
 }
 
 fn in_phase(rt: &impl Print, phase: u8, length: usize) -> io::Result<()> {
-    let mut bytes = Access::of(4, Access::READ, 0).record(0x1000);
+    let mut bytes = read(4, 0).record(0x1000);
     bytes[Record::PHASE] = phase;
     record(rt, &bytes, phase, length)
 }

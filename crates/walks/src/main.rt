@@ -6,70 +6,100 @@ mod cases;
 mod rules;
 mod sweeps;
 
-use record::{Record, words};
+use record::Record;
+use record::words::Stored;
 use std::fmt::{Display, Formatter};
 use std::{fmt, io};
 
 // What the answer's words hold before a walk.
-const BEFORE: u64 = 0xEEEE;
+const BEFORE: [u64; 3] = [0xEEEE; 3];
 
-// The refusal, and the answer's words.
+// The refusal of an entry that lies past the end of memory.
+const PAST_MEMORY: u32 = 26;
+
+// Numbers as C answers them: this program is to notice a wrong one, and uses none of the core's enums.
 #[derive(Clone, Copy)]
-struct Answer {
-    refusal: u32,
-    what: u64,
-    first: u64,
-    second: u64,
-}
-
-impl Answer {
-    // A refused walk writes none of the words.
-    fn is_written(self) -> bool {
-        self.what != BEFORE || self.first != BEFORE || self.second != BEFORE
-    }
+enum Answer {
+    Address(u64),
+    Fails { level: u64, rule: u64 },
+    // A refused walk writes none of the answer's words.
+    Refused { refusal: u32, is_written: bool },
+    // The words are none that a walk answers.
+    Neither,
 }
 
 impl Display for Answer {
     fn fmt<W: fmt::Write>(&self, f: &mut Formatter<W>) -> fmt::Result {
-        let Answer {
-            refusal,
-            what,
-            first,
-            second,
-        } = *self;
-        if refusal != 0 {
-            let written = if self.is_written() { ", written" } else { "" };
-            write!(f, "refused {refusal}{written}")
-        } else if what == 0 && second == 0 {
-            write!(f, "address {first:x}")
-        } else if what == 1 {
-            write!(f, "level {first} rule {second}")
-        } else {
-            f.write_str("neither")
+        match *self {
+            Answer::Address(address) => write!(f, "address {address:x}"),
+            Answer::Fails { level, rule } => write!(f, "level {level} rule {rule}"),
+            Answer::Refused {
+                refusal,
+                is_written,
+            } => {
+                let written = if is_written { ", written" } else { "" };
+                write!(f, "refused {refusal}{written}")
+            }
+            Answer::Neither => f.write_str("neither"),
         }
     }
 }
 
-fn walk(bytes: &[u8], memory: &[u8], address: u64, access: u8) -> Answer {
-    let mut answer = [BEFORE; 3];
-    let refusal = x86_vcpu::readings::vcpu_page_walk(bytes, memory, address, access, &mut answer);
-    Answer {
-        refusal,
-        what: answer[0],
-        first: answer[1],
-        second: answer[2],
+fn walk(bytes: &[u8], memory: &[u8], address: u64, way: Way) -> Answer {
+    let mut words = BEFORE;
+    let kind = u8::from(way);
+    let refusal = x86_vcpu::readings::vcpu_page_walk(bytes, memory, address, kind, &mut words);
+    // An exported call answers a number.
+    if refusal != 0 {
+        return Answer::Refused {
+            refusal,
+            is_written: words != BEFORE,
+        };
+    }
+    match words {
+        [0, address, 0] => Answer::Address(address),
+        [1, level, rule] => Answer::Fails { level, rule },
+        _ => Answer::Neither,
     }
 }
 
-// Memory that ends at this length.
-fn walk_part(bytes: &[u8], memory: &[u8], length: usize, address: u64, access: u8) -> Answer {
-    if length <= memory.len() {
-        return walk(bytes, &memory[..length], address, access);
-    }
-    walk(bytes, memory, address, access)
+// Memory that ends at this length, or where all of it ends.
+fn walk_part(bytes: &[u8], memory: &[u8], length: usize, address: u64, way: Way) -> Answer {
+    walk(bytes, memory.get(..length).unwrap_or(memory), address, way)
 }
 
 // ---- The access, and the record of a guest that makes it: what a walk depends on but for memory and address
+
+// A kind of access, or a number that is none.
+#[derive(Clone, Copy)]
+enum Way {
+    Read,
+    Write,
+    Fetch,
+    Other(u8),
+}
+
+impl From<Way> for u8 {
+    fn from(way: Way) -> u8 {
+        match way {
+            Way::Read => 0,
+            Way::Write => 1,
+            Way::Fetch => 2,
+            Way::Other(number) => number,
+        }
+    }
+}
+
+impl Display for Way {
+    fn fmt<W: fmt::Write>(&self, f: &mut Formatter<W>) -> fmt::Result {
+        match *self {
+            Way::Read => f.write_str("read"),
+            Way::Write => f.write_str("write"),
+            Way::Fetch => f.write_str("fetch"),
+            Way::Other(number) => write!(f, "kind {number}"),
+        }
+    }
+}
 
 // The fields, by their encodings.
 const EFER: u64 = 0x2806;
@@ -86,18 +116,12 @@ const CR4: u64 = 0x6804;
 #[derive(Clone, Copy)]
 struct Access {
     levels: u8,
-    kind: u8,
+    way: Way,
     flags: u64,
 }
 
 impl Access {
-    const READ: u8 = 0;
-
-    const WRITE: u8 = 1;
-
-    const FETCH: u8 = 2;
-
-    // A flag is its bit of CR0, of CR4 or of EFER; and USER is DPL 3 of SS, 40 bits above its place in the rights.
+    // A flag is its bit of CR0, of CR4 or of EFER; and USER is DPL 3 of SS, 40 bits above its place in the rights. So a case joins its flags by `|`.
     const WP: u64 = 0x1_0000;
 
     const PSE: u64 = 0x10;
@@ -110,14 +134,6 @@ impl Access {
 
     const USER: u64 = 0x6000_0000_0000;
 
-    fn of(levels: u8, kind: u8, flags: u64) -> Self {
-        Access {
-            levels,
-            kind,
-            flags,
-        }
-    }
-
     // The record of a guest that makes this access.
     fn record(self, cr3: u64) -> [u8; Record::LENGTH] {
         let flags = self.flags | paging(self.levels);
@@ -129,33 +145,27 @@ impl Access {
         write_field(&mut bytes, SS_RIGHTS, flags >> 40);
         bytes
     }
-
-    // What is printed for a flag: its name, where it is set.
-    fn named(self, flag: u64, name: &str) -> &str {
-        if self.flags & flag != 0 { name } else { "" }
-    }
 }
 
 // Who accesses, how, and the flags.
 impl Display for Access {
     fn fmt<W: fmt::Write>(&self, f: &mut Formatter<W>) -> fmt::Result {
-        let who = if self.flags & Self::USER != 0 {
-            "user"
-        } else {
-            "supervisor"
-        };
-        write!(f, "{who} ")?;
-        match self.kind {
-            Self::READ => f.write_str("read")?,
-            Self::WRITE => f.write_str("write")?,
-            Self::FETCH => f.write_str("fetch")?,
-            other => write!(f, "kind {other}")?,
+        let Access { way, flags, .. } = *self;
+        let is_user = flags & Self::USER != 0;
+        let who = if is_user { "user" } else { "supervisor" };
+        write!(f, "{who} {way}")?;
+        for (flag, name) in [
+            (Self::WP, "WP"),
+            (Self::PSE, "PSE"),
+            (Self::SMEP, "SMEP"),
+            (Self::SMAP, "SMAP"),
+            (Self::NXE, "NXE"),
+        ] {
+            if flags & flag != 0 {
+                write!(f, ", {name}")?;
+            }
         }
-        f.write_str(self.named(Self::WP, ", WP"))?;
-        f.write_str(self.named(Self::PSE, ", PSE"))?;
-        f.write_str(self.named(Self::SMEP, ", SMEP"))?;
-        f.write_str(self.named(Self::SMAP, ", SMAP"))?;
-        f.write_str(self.named(Self::NXE, ", NXE"))
+        Ok(())
     }
 }
 
@@ -187,10 +197,10 @@ const MEMORY: usize = 0x6000;
 fn put_entry(memory: &mut [u8; MEMORY], levels: u8, at: usize, entry: u64) {
     if levels == 2 {
         if at < MEMORY - 3 {
-            words::put4(memory, at, (entry % 0x1_0000_0000) as u32);
+            u32::put(memory, at, (entry % 0x1_0000_0000) as u32);
         }
     } else if at < MEMORY - 7 {
-        words::put8(memory, at, entry);
+        u64::put(memory, at, entry);
     }
 }
 
@@ -216,106 +226,89 @@ fn page_of(level: u8) -> u64 {
 
 // The table of a level, where another is under test.
 fn table_of(level: u8, tested: u8) -> u64 {
-    if tested > 1 {
-        if level == tested - 1 {
-            return 0;
-        }
+    if tested > 1 && level == tested - 1 {
+        0
+    } else {
+        page_of(level)
     }
-    page_of(level)
 }
 
 // Where the entry of a level lies.
 fn place_of(levels: u8, level: u8, tested: u8) -> usize {
-    if levels == 2 {
-        return (table_of(level, tested) | page_of(level) / 0x400) as usize;
-    }
-    (table_of(level, tested) | page_of(level) / 0x200) as usize
+    let in_table = match levels {
+        2 => page_of(level) / 0x400,
+        _ => page_of(level) / 0x200,
+    };
+    (table_of(level, tested) | in_table) as usize
 }
 
 // What an entry that lets everyone pass has beside its address: P, RW and US, of PAE's top table P.
 fn open_of(levels: u8, level: u8) -> u64 {
-    if (levels == 3) & (level == 3) {
-        return 1;
-    }
-    7
-}
-
-fn put_level(memory: &mut [u8; MEMORY], levels: u8, level: u8, tested: u8) {
-    if level <= levels {
-        if level > 0 {
-            let entry = table_of(level - 1, tested) | open_of(levels, level);
-            put_entry(memory, levels, place_of(levels, level, tested), entry);
-        }
+    match (levels, level) {
+        (3, 3) => 1,
+        _ => 7,
     }
 }
 
 // The tables, with every entry open.
 fn memory_of(levels: u8, tested: u8) -> [u8; MEMORY] {
     let mut memory = [0u8; MEMORY];
-    put_level(&mut memory, levels, 4, tested);
-    put_level(&mut memory, levels, 3, tested);
-    put_level(&mut memory, levels, 2, tested);
-    put_level(&mut memory, levels, 1, tested);
+    for level in 1..=levels {
+        let entry = table_of(level - 1, tested) | open_of(levels, level);
+        put_entry(&mut memory, levels, place_of(levels, level, tested), entry);
+    }
     memory
 }
 
 // ---- The mark of a walk
 
-// No bit is turned.
-const NO_BIT: u64 = 64;
-
-// The number with a bit turned.
+// The number with a bit turned; it has none above 63.
 fn turned(number: u64, bit: u64) -> u64 {
     if bit < 64 {
-        return number ^ (1 << bit);
+        number ^ (1 << bit)
+    } else {
+        number
     }
-    number
 }
 
-fn address_mark(address: u64, home: u64, bit: u64) -> u8 {
-    if address == home {
-        return b'.';
+fn address_mark(address: u64, home: Option<u64>, bit: Option<u64>) -> u8 {
+    match (home, bit) {
+        (Some(home), _) if address == home => b'.',
+        (Some(home), Some(bit)) if address == turned(home, bit) => b'=',
+        (Some(home), Some(bit)) if bit < 64 && address == turned(home, bit + 19) => b'^',
+        _ => b'*',
     }
-    if address == turned(home, bit) {
-        return b'=';
-    }
-    if bit < NO_BIT {
-        if address == turned(home, bit + 19) {
-            return b'^';
-        }
-    }
-    b'*'
 }
 
 // A digit at this level, a letter at another.
-fn rule_mark(level: u64, rule: u64, at: u64) -> u8 {
+fn rule_mark(level: u64, rule: u64, at: u8) -> u8 {
     let number = (rule % 8) as u8;
-    if level == at {
-        return b'0' + number;
+    if level == u64::from(at) {
+        b'0' + number
+    } else {
+        b'`' + number
     }
-    b'`' + number
 }
 
-// Of an entry at this level, with a bit turned.
-fn mark(a: Answer, level: u8, home: u64, bit: u64) -> u8 {
-    if a.refusal == 26 {
-        return b'R';
+// Of an entry at this level, with a bit turned or none.
+fn mark(answer: Answer, at: u8, home: Option<u64>, bit: Option<u64>) -> u8 {
+    match answer {
+        Answer::Address(address) => address_mark(address, home, bit),
+        Answer::Fails { level, rule } => rule_mark(level, rule, at),
+        Answer::Refused {
+            refusal: PAST_MEMORY,
+            ..
+        } => b'R',
+        Answer::Refused { .. } | Answer::Neither => b'*',
     }
-    if a.refusal != 0 {
-        return b'*';
-    }
-    if a.what == 1 {
-        return rule_mark(a.first, a.second, level as u64);
-    }
-    address_mark(a.first, home, bit)
 }
 
 // The level at which nothing is present.
-fn level_mark(a: Answer, home: u64, bit: u64) -> u8 {
-    if (a.refusal == 0) & (a.what == 1) & (a.second == 1) {
-        return b'0' + (a.first % 8) as u8;
+fn level_mark(answer: Answer, home: Option<u64>, bit: u64) -> u8 {
+    match answer {
+        Answer::Fails { level, rule: 1 } => b'0' + (level % 8) as u8,
+        _ => mark(answer, 0, home, Some(bit)),
     }
-    mark(a, 0, home, bit)
 }
 
 // Eight marks stand together.
@@ -328,45 +321,65 @@ fn print_mark(rt: &impl Print, mark: u8, number: u64) -> io::Result<()> {
 
 // ---- The kinds of entries
 
-// An entry at a level; PS, where that makes it a page; with 2 levels CR4.PSE; the lowest bit that is reserved without NXE, by its place; and one that is reserved with NXE too, other than RW and US,
-// or is ignored.
+// An entry at a level.
 #[derive(Clone, Copy)]
 struct Kind {
     levels: u8,
     level: u8,
+    // PS, where that makes it a page.
     bits: u64,
-    pse: u64,
-    reserved: u64,
+    // With 2 levels CR4.PSE.
+    flags: u64,
+    // The lowest bit that is reserved without NXE, by its place.
+    reserved: Option<u64>,
+    // One that is reserved with NXE too, other than RW and US, or is ignored.
     spare: u64,
 }
 
 impl Kind {
     // Entries that lead to this table.
     fn leading(self, table: u64) -> Self {
-        let mut k = self;
-        k.bits = table;
-        k
+        Kind {
+            bits: table,
+            ..self
+        }
     }
 
     // Without CR4.PSE.
     fn without(self) -> Self {
-        let mut k = self;
-        k.pse = 0;
-        k
+        Kind { flags: 0, ..self }
     }
 
     // Else it leads to a table.
     fn is_page(self) -> bool {
-        (self.level == 1) | (self.bits == 0x80)
+        self.level == 1 || self.bits == 0x80
     }
 
-    fn by(self, access: u8, flags: u64) -> Access {
-        Access::of(self.levels, access, flags | self.pse)
+    fn by(self, way: Way, flags: u64) -> Access {
+        Access {
+            levels: self.levels,
+            way,
+            flags: flags | self.flags,
+        }
+    }
+
+    // The record of a guest that makes an access.
+    fn record(self, access: Access) -> [u8; Record::LENGTH] {
+        access.record(page_of(self.levels))
     }
 
     // Where an entry lies.
     fn place(self) -> usize {
         place_of(self.levels, self.level, self.level)
+    }
+
+    // The tables, with this entry under test.
+    fn memory(self) -> [u8; MEMORY] {
+        memory_of(self.levels, self.level)
+    }
+
+    fn put(self, memory: &mut [u8; MEMORY], entry: u64) {
+        put_entry(memory, self.levels, self.place(), entry);
     }
 
     // The entry that lets everyone pass.
@@ -383,36 +396,32 @@ impl Display for Kind {
     }
 }
 
-fn print_kind(rt: &impl Print, kind: Kind) -> io::Result<()> {
-    rules::rules(rt, kind)?;
-    sweeps::sweeps(rt, kind)
-}
-
 fn each_kind(rt: &impl Print) -> io::Result<()> {
-    for (levels, level, bits, pse, reserved, spare) in [
-        (4, 4, 0, 0, 7, 7),
-        (4, 3, 0x80, 0, 13, 13),
-        (4, 3, 0, 0, 63, 52),
-        (4, 2, 0x80, 0, 13, 13),
-        (4, 2, 0, 0, 63, 52),
-        (4, 1, 0, 0, 63, 52),
-        (3, 3, 0, 0, 1, 5),
-        (3, 2, 0x80, 0, 13, 13),
-        (3, 2, 0, 0, 52, 52),
-        (3, 1, 0, 0, 52, 52),
-        (2, 2, 0x80, Access::PSE, 21, 21),
-        (2, 2, 0, Access::PSE, NO_BIT, 9),
-        (2, 1, 0, Access::PSE, NO_BIT, 9),
+    for (levels, level, bits, flags, reserved, spare) in [
+        (4, 4, 0, 0, Some(7), 7),
+        (4, 3, 0x80, 0, Some(13), 13),
+        (4, 3, 0, 0, Some(63), 52),
+        (4, 2, 0x80, 0, Some(13), 13),
+        (4, 2, 0, 0, Some(63), 52),
+        (4, 1, 0, 0, Some(63), 52),
+        (3, 3, 0, 0, Some(1), 5),
+        (3, 2, 0x80, 0, Some(13), 13),
+        (3, 2, 0, 0, Some(52), 52),
+        (3, 1, 0, 0, Some(52), 52),
+        (2, 2, 0x80, Access::PSE, Some(21), 21),
+        (2, 2, 0, Access::PSE, None, 9),
+        (2, 1, 0, Access::PSE, None, 9),
     ] {
         let kind = Kind {
             levels,
             level,
             bits,
-            pse,
+            flags,
             reserved,
             spare,
         };
-        print_kind(rt, kind)?;
+        rules::rules(rt, kind)?;
+        sweeps::sweeps(rt, kind)?;
     }
     Ok(())
 }

@@ -1,6 +1,6 @@
 // Of each rule that an entry can break: the smallest one that breaks it first; that one with the bit turned of which the rule speaks; and the smallest one with the flag turned of which it speaks, if it
-// does.
-use crate::{Access, Answer, Kind};
+// does. Rules are numbers as C answers them: this program is to notice a wrong one, and uses none of the core's enums.
+use crate::{Access, Answer, Kind, Way};
 use std::fmt::{Display, Formatter};
 use std::{fmt, io};
 
@@ -31,40 +31,57 @@ impl Display for Met {
     }
 }
 
-fn meet(k: Kind, access: u8, flags: u64, entry: u64) -> Met {
-    let a = k.by(access, flags);
-    let bytes = a.record(crate::page_of(k.levels));
-    let mut memory = crate::memory_of(k.levels, k.level);
-    crate::put_entry(&mut memory, k.levels, k.place(), entry);
+fn meet(k: Kind, access: Access, entry: u64) -> Met {
+    let bytes = k.record(access);
+    let mut memory = k.memory();
+    k.put(&mut memory, entry);
     Met {
-        access: a,
+        access,
         entry,
-        answer: crate::walk(&bytes, &memory, crate::address_of(k.levels), access),
+        answer: crate::walk(&bytes, &memory, crate::address_of(k.levels), access.way),
     }
 }
 
-fn line(
-    rt: &impl Print,
-    k: Kind,
+// A rule, and the smallest entry that breaks it: by which access, which flags are turned, and the entry with its bit turned.
+#[derive(Clone, Copy)]
+struct Broken {
     rule: u64,
-    access: u8,
+    way: Way,
     flags: u64,
     others: u64,
     entry: u64,
     turned: u64,
-) -> io::Result<()> {
-    let smallest = meet(k, access, flags, entry);
-    let bit_turned = meet(k, access, flags, turned);
-    let flag_turned = meet(k, access, others, entry);
-    println!(rt; "{k}rule {rule}: {smallest}; {bit_turned}; {flag_turned}")
+}
+
+impl Broken {
+    fn print(self, rt: &impl Print, k: Kind) -> io::Result<()> {
+        let rule = self.rule;
+        let smallest = meet(k, k.by(self.way, self.flags), self.entry);
+        let bit_turned = meet(k, k.by(self.way, self.flags), self.turned);
+        let flag_turned = meet(k, k.by(self.way, self.others), self.entry);
+        println!(rt; "{k}rule {rule}: {smallest}; {bit_turned}; {flag_turned}")
+    }
 }
 
 fn presence(rt: &impl Print, k: Kind) -> io::Result<()> {
     let present = k.bits | P;
-    let reserved = crate::turned(present, k.reserved);
-    line(rt, k, 1, Access::READ, 0, Access::USER, k.bits, present)?;
-    if reserved != present {
-        line(rt, k, 2, Access::READ, 0, Access::NXE, reserved, present)?;
+    let absent = Broken {
+        rule: 1,
+        way: Way::Read,
+        flags: 0,
+        others: Access::USER,
+        entry: k.bits,
+        turned: present,
+    };
+    absent.print(rt, k)?;
+    if let Some(bit) = k.reserved {
+        let reserved = Broken {
+            rule: 2,
+            others: Access::NXE,
+            entry: crate::turned(present, bit),
+            ..absent
+        };
+        reserved.print(rt, k)?;
     }
     Ok(())
 }
@@ -72,63 +89,55 @@ fn presence(rt: &impl Print, k: Kind) -> io::Result<()> {
 // An entry of 4 bytes has no XD.
 fn rights(rt: &impl Print, k: Kind) -> io::Result<()> {
     let present = k.bits | P;
-    line(
-        rt,
-        k,
-        3,
-        Access::READ,
-        Access::USER,
-        0,
-        present,
-        present | US,
-    )?;
-    line(
-        rt,
-        k,
-        4,
-        Access::WRITE,
-        Access::WP,
-        0,
-        present,
-        present | RW,
-    )?;
+    let user = Broken {
+        rule: 3,
+        way: Way::Read,
+        flags: Access::USER,
+        others: 0,
+        entry: present,
+        turned: present | US,
+    };
+    let write = Broken {
+        rule: 4,
+        way: Way::Write,
+        flags: Access::WP,
+        turned: present | RW,
+        ..user
+    };
+    user.print(rt, k)?;
+    write.print(rt, k)?;
     if k.levels != 2 {
-        line(
-            rt,
-            k,
-            5,
-            Access::FETCH,
-            Access::NXE,
-            0,
-            present | XD,
-            present,
-        )?;
+        let fetch = Broken {
+            rule: 5,
+            way: Way::Fetch,
+            flags: Access::NXE,
+            entry: present | XD,
+            turned: present,
+            ..user
+        };
+        fetch.print(rt, k)?;
     }
     Ok(())
 }
 
 fn prevention(rt: &impl Print, k: Kind) -> io::Result<()> {
     let present = k.bits | P;
-    line(
-        rt,
-        k,
-        6,
-        Access::FETCH,
-        Access::SMEP,
-        0,
-        present | US,
-        present,
-    )?;
-    line(
-        rt,
-        k,
-        7,
-        Access::READ,
-        Access::SMAP,
-        0,
-        present | US,
-        present,
-    )
+    let smep = Broken {
+        rule: 6,
+        way: Way::Fetch,
+        flags: Access::SMEP,
+        others: 0,
+        entry: present | US,
+        turned: present,
+    };
+    let smap = Broken {
+        rule: 7,
+        way: Way::Read,
+        flags: Access::SMAP,
+        ..smep
+    };
+    smep.print(rt, k)?;
+    smap.print(rt, k)
 }
 
 // Those that an entry of this kind can break.

@@ -1,5 +1,5 @@
 // Many walks to a line.
-use crate::{Access, Answer, Kind, MEMORY};
+use crate::{Access, Answer, Kind, MEMORY, Way};
 use record::Record;
 use std::io;
 
@@ -20,129 +20,154 @@ enum What {
     Present,
 }
 
+impl What {
+    fn name(self) -> &'static str {
+        match self {
+            What::Top => "CR3",
+            What::Address => "address",
+            What::Entry => "entry",
+            What::Bits => "bits",
+            What::Absent | What::Present => "memory of",
+        }
+    }
+}
+
 fn bit_if(number: u64, bit: u64) -> u64 {
     if number % 2 == 1 {
-        return crate::turned(0, bit);
+        crate::turned(0, bit)
+    } else {
+        0
     }
-    0
 }
 
 // P, RW and US, of 8 bytes XD, and the bit that is reserved or ignored.
 fn combination(k: Kind, number: u64) -> u64 {
-    if k.levels == 2 {
-        return k.bits | number % 8 | bit_if(number / 8, k.spare);
-    }
-    k.bits | number % 8 | bit_if(number / 8, 63) | bit_if(number / 16, k.spare)
-}
-
-fn entry_of(k: Kind, what: What, number: u64) -> u64 {
-    match what {
-        What::Entry => crate::turned(k.open(), number),
-        What::Bits => combination(k, number),
-        What::Absent => 0,
-        What::Top | What::Address | What::Present => k.open(),
+    let rights = k.bits | number % 8;
+    match k.levels {
+        2 => rights | bit_if(number / 8, k.spare),
+        _ => rights | bit_if(number / 8, 63) | bit_if(number / 16, k.spare),
     }
 }
 
-// A length from the place of the entry on.
-fn length_from(k: Kind, number: u64) -> usize {
-    let place = k.place();
-    if place < MEMORY && number < 64 {
-        return place + number as usize;
-    }
-    MEMORY
-}
-
-fn length_of(k: Kind, what: What, number: u64) -> usize {
-    match what {
-        What::Absent | What::Present => length_from(k, number),
-        What::Top | What::Address | What::Entry | What::Bits => MEMORY,
-    }
-}
-
-fn address_of(levels: u8, what: What, number: u64) -> u64 {
-    let address = crate::address_of(levels);
-    match what {
-        What::Address => crate::turned(address, number),
-        _ => address,
-    }
-}
-
-fn put_top(bytes: &mut [u8; Record::LENGTH], levels: u8, what: What, number: u64) {
-    if matches!(what, What::Top) {
-        crate::put_top(bytes, crate::turned(crate::page_of(levels), number));
-    }
-}
-
-fn walk_one(
-    bytes: &mut [u8; Record::LENGTH],
-    memory: &mut [u8; MEMORY],
-    k: Kind,
-    access: u8,
+// The walks of a line: of a kind of entry, by an access.
+#[derive(Clone, Copy)]
+struct Sweep {
+    kind: Kind,
+    access: Access,
     what: What,
-    number: u64,
-) -> Answer {
-    let address = address_of(k.levels, what, number);
-    put_top(bytes, k.levels, what, number);
-    crate::put_entry(memory, k.levels, k.place(), entry_of(k, what, number));
-    crate::walk_part(bytes, memory, length_of(k, what, number), address, access)
 }
 
-fn mark_of(a: Answer, k: Kind, what: What, home: u64, number: u64) -> u8 {
-    match what {
-        What::Top | What::Address => crate::level_mark(a, home, number),
-        What::Entry => crate::mark(a, k.level, home, number),
-        What::Bits | What::Absent | What::Present => crate::mark(a, k.level, home, crate::NO_BIT),
+impl Sweep {
+    // Where the walks begin.
+    fn value(self) -> u64 {
+        match self.what {
+            What::Top => crate::page_of(self.kind.levels),
+            What::Address => crate::address_of(self.kind.levels),
+            What::Entry => self.kind.open(),
+            What::Bits => combination(self.kind, 31),
+            What::Absent | What::Present => self.kind.place() as u64,
+        }
+    }
+
+    fn entry(self, number: u64) -> u64 {
+        match self.what {
+            What::Entry => crate::turned(self.kind.open(), number),
+            What::Bits => combination(self.kind, number),
+            What::Absent => 0,
+            What::Top | What::Address | What::Present => self.kind.open(),
+        }
+    }
+
+    fn length(self, number: u64) -> usize {
+        let place = self.kind.place();
+        match self.what {
+            What::Absent | What::Present if place < MEMORY && number < 64 => {
+                place + number as usize
+            }
+            _ => MEMORY,
+        }
+    }
+
+    fn address(self, number: u64) -> u64 {
+        let address = crate::address_of(self.kind.levels);
+        match self.what {
+            What::Address => crate::turned(address, number),
+            _ => address,
+        }
+    }
+
+    fn walk(
+        self,
+        bytes: &mut [u8; Record::LENGTH],
+        memory: &mut [u8; MEMORY],
+        number: u64,
+    ) -> Answer {
+        if matches!(self.what, What::Top) {
+            crate::put_top(bytes, crate::turned(self.value(), number));
+        }
+        self.kind.put(memory, self.entry(number));
+        let address = self.address(number);
+        crate::walk_part(bytes, memory, self.length(number), address, self.access.way)
+    }
+
+    fn mark(self, answer: Answer, home: Option<u64>, number: u64) -> u8 {
+        let level = self.kind.level;
+        match self.what {
+            What::Top | What::Address => crate::level_mark(answer, home, number),
+            What::Entry => crate::mark(answer, level, home, Some(number)),
+            What::Bits | What::Absent | What::Present => crate::mark(answer, level, home, None),
+        }
+    }
+
+    fn print(self, rt: &impl Print, count: u64) -> io::Result<()> {
+        let Sweep { kind, access, what } = self;
+        let name = what.name();
+        print!(rt; "{kind}{access}, {name} {:x}", self.value())?;
+        let home = home_of(kind);
+        if let Some(home) = home {
+            print!(rt; ", to {home:x}")?;
+        }
+        print!(rt; ":")?;
+        let mut bytes = kind.record(access);
+        let mut memory = kind.memory();
+        for number in 0..count {
+            let answer = self.walk(&mut bytes, &mut memory, number);
+            crate::print_mark(rt, self.mark(answer, home, number), number)?;
+        }
+        println!(rt; "")
     }
 }
 
-// The address that an entry leads to which lets everyone pass, or 0 where it leads to none.
-fn home_of(k: Kind) -> u64 {
-    let mut bytes = k.by(Access::READ, 0).record(crate::page_of(k.levels));
-    let mut memory = crate::memory_of(k.levels, k.level);
-    let a = walk_one(
-        &mut bytes,
-        &mut memory,
-        k,
-        Access::READ,
-        What::Entry,
-        crate::NO_BIT,
-    );
-    if a.refusal == 0 && a.what == 0 {
-        return a.first;
+// The address that an entry leads to which lets everyone pass.
+fn home_of(k: Kind) -> Option<u64> {
+    let access = k.by(Way::Read, 0);
+    let mut memory = k.memory();
+    k.put(&mut memory, k.open());
+    match crate::walk(
+        &k.record(access),
+        &memory,
+        crate::address_of(k.levels),
+        access.way,
+    ) {
+        Answer::Address(home) => Some(home),
+        _ => None,
     }
-    0
 }
 
-fn print_home(rt: &impl Print, home: u64) -> io::Result<()> {
-    if home != 0 {
-        print!(rt; ", to {home:x}")?;
-    }
-    Ok(())
-}
-
-fn sweep(
+fn print_sweep(
     rt: &impl Print,
-    k: Kind,
-    access: u8,
+    kind: Kind,
+    way: Way,
     flags: u64,
     what: What,
-    name: &str,
-    value: u64,
     count: u64,
 ) -> io::Result<()> {
-    let home = home_of(k);
-    let a = k.by(access, flags);
-    let mut bytes = a.record(crate::page_of(k.levels));
-    let mut memory = crate::memory_of(k.levels, k.level);
-    print!(rt; "{k}{a}, {name} {value:x}")?;
-    print_home(rt, home)?;
-    print!(rt; ":")?;
-    for number in 0..count {
-        let walked = walk_one(&mut bytes, &mut memory, k, access, what, number);
-        crate::print_mark(rt, mark_of(walked, k, what, home, number), number)?;
-    }
-    println!(rt; "")
+    let sweep = Sweep {
+        kind,
+        access: kind.by(way, flags),
+        what,
+    };
+    sweep.print(rt, count)
 }
 
 // Entries have half the bits with 2 levels.
@@ -150,83 +175,46 @@ fn half(k: Kind, count: u64) -> u64 {
     if k.levels == 2 { count / 2 } else { count }
 }
 
-fn end(rt: &impl Print, k: Kind, what: What) -> io::Result<()> {
-    let place = k.place() as u64;
-    sweep(
-        rt,
-        k,
-        Access::READ,
-        0,
-        what,
-        "memory of",
-        place,
-        half(k, 8) | 2,
-    )
-}
-
 fn places(rt: &impl Print, k: Kind) -> io::Result<()> {
-    end(rt, k, What::Absent)?;
+    let count = half(k, 8) | 2;
+    print_sweep(rt, k, Way::Read, 0, What::Absent, count)?;
     if k.is_page() {
-        end(rt, k, What::Present)?;
-        let address = crate::address_of(k.levels);
-        sweep(
-            rt,
-            k,
-            Access::READ,
-            0,
-            What::Address,
-            "address",
-            address,
-            64,
-        )?;
+        print_sweep(rt, k, Way::Read, 0, What::Present, count)?;
+        print_sweep(rt, k, Way::Read, 0, What::Address, 64)?;
     }
     if k.level == 1 {
-        let top = crate::page_of(k.levels);
-        sweep(rt, k, Access::READ, 0, What::Top, "CR3", top, 64)?;
+        print_sweep(rt, k, Way::Read, 0, What::Top, 64)?;
     }
     Ok(())
 }
 
-fn entry(rt: &impl Print, k: Kind, access: u8, flags: u64) -> io::Result<()> {
-    let count = half(k, 64);
-    sweep(rt, k, access, flags, What::Entry, "entry", k.open(), count)
-}
-
 // Without NXE and with it. With 2 levels NXE does not count, and PSE does.
 fn entries(rt: &impl Print, k: Kind) -> io::Result<()> {
-    entry(rt, k, Access::READ, 0)?;
+    let count = half(k, 64);
+    print_sweep(rt, k, Way::Read, 0, What::Entry, count)?;
     if k.levels == 2 {
-        entry(rt, k.without(), Access::READ, Access::NXE)
+        print_sweep(rt, k.without(), Way::Read, Access::NXE, What::Entry, count)
     } else {
-        entry(rt, k, Access::FETCH, Access::NXE | Access::USER)
+        let flags = Access::NXE | Access::USER;
+        print_sweep(rt, k, Way::Fetch, flags, What::Entry, count)
     }
 }
 
-fn combine(rt: &impl Print, k: Kind, access: u8, flags: u64, count: u64) -> io::Result<()> {
-    let all = combination(k, 31);
-    sweep(
-        rt,
-        k,
-        access,
-        flags | Access::NXE,
-        What::Bits,
-        "bits",
-        all,
-        count,
-    )
+fn combine(rt: &impl Print, k: Kind, way: Way, flags: u64, count: u64) -> io::Result<()> {
+    print_sweep(rt, k, way, flags | Access::NXE, What::Bits, count)
 }
 
 // Each kind of access, with flags that bear on it and flags that do not.
 fn combinations(rt: &impl Print, k: Kind) -> io::Result<()> {
-    for (access, flags, count) in [
-        (Access::WRITE, Access::SMAP, 8),
-        (Access::WRITE, Access::SMAP | Access::WP, 8),
-        (Access::FETCH, Access::SMEP, half(k, 16)),
-        (Access::FETCH, Access::SMAP | Access::WP, half(k, 16)),
-        (Access::WRITE, Access::USER | Access::SMAP, 8),
-        (Access::FETCH, Access::USER | Access::SMEP, half(k, 32)),
+    for (way, flags, count) in [
+        (Way::Write, Access::SMAP, 8),
+        (Way::Write, Access::SMAP | Access::WP, 8),
+        (Way::Fetch, Access::SMEP, half(k, 16)),
+        (Way::Fetch, Access::SMAP | Access::WP, half(k, 16)),
+        (Way::Write, Access::USER | Access::SMAP, 8),
+        (Way::Fetch, Access::USER | Access::SMEP, half(k, 32)),
     ] {
-        combine(rt, k, access, flags, count)?;
+        combine(rt, k, way, flags, count)?;
     }
     Ok(())
 }
@@ -238,12 +226,6 @@ pub fn sweeps(rt: &impl Print, k: Kind) -> io::Result<()> {
     if k.is_page() {
         return Ok(());
     }
-    combine(rt, k.leading(0x10_0000), Access::WRITE, Access::USER, 8)?;
-    combine(
-        rt,
-        k.leading(0x5000),
-        Access::FETCH,
-        Access::USER,
-        half(k, 32),
-    )
+    combine(rt, k.leading(0x10_0000), Way::Write, Access::USER, 8)?;
+    combine(rt, k.leading(0x5000), Way::Fetch, Access::USER, half(k, 32))
 }

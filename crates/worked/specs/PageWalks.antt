@@ -5,8 +5,7 @@ use Rattle.vcpu_readings.specs.declared.PagingWords.{PagingWords}
 use Rattle.vcpu_readings.specs.Readings.{page_walk}
 use Rattle.guest_paging.specs.Access as Access
 use Rattle.guest_paging.specs.Walk.{for_access, page_walk_of}
-use Rattle.guest_paging.specs.declared.Walked.{Walked}
-use Rattle.guest_paging.specs.declared.Walked.TheVariants.{Address, Fails, Refused}
+use Rattle.guest_paging.specs.Walked.{Walked, Address, Fails, Refused}
 
 -- a word of 8 bytes and its place
 pub record Word : Type 0 where

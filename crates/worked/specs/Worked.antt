@@ -10,7 +10,7 @@ use Rattle.structs.specs.Frames.{in_a, port_byte, port_bit, msr_byte, msr_bit}
 use Rattle.structs.specs.declared.Access.TheVariants.{Write}
 use Rattle.vcpu_session.specs.Session.{new_session}
 use Rattle.vcpu_events.specs.Entry.{injected}
-use Rattle.vcpu_events.specs.declared.Event.{Event}
+use Rattle.vcpu_events.specs.Queue.{Event}
 use Rattle.vcpu_exit.specs.declared.CpuidWords.{CpuidWords}
 use Rattle.vcpu_answers.specs.Answer.{answer_words, io_answer}
 use Rattle.vcpu_answers.specs.Cpuid.{cpuid_words, leaf_words}

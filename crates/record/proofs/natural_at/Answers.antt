@@ -9,4 +9,4 @@ use Rattle.record.proofs.natural_at.Goals as goal
 pub returns : goal.returns
 unfolding session_of
 returns c = let a = c.args in
-    c.get8.ensures ∙ read_all_at 8 (little_endian 8) 46 Record.NATURAL a.b.now a.place 0 (search rules)
+    c.get.ensures ∙ read_all_at 8 (little_endian 8) 46 Record.NATURAL a.b.now a.place 0 (search rules)

@@ -13,6 +13,6 @@ use Rattle.record.proofs.reg_at.Goals as goal
 pub returns : goal.returns
 unfolding session_of
 returns c = let a = c.args in
-    c.get8.ensures
+    c.get.ensures
     ∙ read_all_at 8 (little_endian 8) 16 Record.REGS a.b.now a.index 0 (search rules)
     ∙ ap (λ (l : List ℕ). get_or l a.index 0) (sym (registers_read (drop Record.REGS a.b.now)))

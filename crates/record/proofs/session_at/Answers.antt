@@ -3,4 +3,4 @@ use Rattle.record.proofs.session_at.Goals as goal
 
 pub returns : goal.returns
 unfolding session_of
-returns c = rw (c.progress_at.ensures, c.regs_at.ensures, c.vmcs_at.ensures, c.queue_at.ensures, c.capabilities_at.ensures, c.xcr0_at.ensures)
+returns c = rw (c.progress_at.ensures, c.get.ensures, c.vmcs_at.ensures, c.queue_at.ensures, c.capabilities_at.ensures, c.xcr0_at.ensures)

@@ -9,4 +9,4 @@ use Rattle.record.proofs.w16_at.Goals as goal
 pub returns : goal.returns
 unfolding session_of
 returns c = let a = c.args in
-    c.get2.ensures ∙ read_all_at 2 (little_endian 2) 17 Record.W16 a.b.now a.place 0 (search rules)
+    c.get.ensures ∙ read_all_at 2 (little_endian 2) 17 Record.W16 a.b.now a.place 0 (search rules)

@@ -9,4 +9,4 @@ use Rattle.record.proofs.w32_at.Goals as goal
 pub returns : goal.returns
 unfolding session_of
 returns c = let a = c.args in
-    c.get4.ensures ∙ read_all_at 4 (little_endian 4) 50 Record.W32 a.b.now a.place 0 (search rules)
+    c.get.ensures ∙ read_all_at 4 (little_endian 4) 50 Record.W32 a.b.now a.place 0 (search rules)

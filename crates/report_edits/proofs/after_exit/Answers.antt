@@ -2,4 +2,4 @@ use Rattle.vcpu_report.proofs.ReportLaws.{phase_known}
 use Rattle.report_edits.proofs.after_exit.Goals as goal
 
 pub put_phase-requires : goal.put_phase-requires
-put_phase-requires c = (c.put_regs.ensures.accepted, rw c.phase_after.ensures (phase_known _))
+put_phase-requires c = rw c.phase_after.ensures (phase_known _)

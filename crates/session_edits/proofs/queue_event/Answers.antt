@@ -1,25 +1,17 @@
-use borrow.Author.Rules.{rules}
 use borrow.Author.Tests.{le-leb, lt-leb, eq-eqb, ne_eqb}
 use Rattle.vcpu_events.specs.Queue.{queue_event}
-use Rattle.record.proofs.Accepted.{whole}
 use Rattle.record.proofs.RoundTrip.{never_unlawful}
 use Rattle.session_edits.proofs.Ends.{refused, edited}
 use Rattle.session_edits.proofs.queue_event.Goals as goal
 
-pub phase_at-requires : goal.phase_at-requires
-phase_at-requires c = search (whole, rules)
-
-pub returns-then-phase_at-eq-ENDED : goal.returns-then-phase_at-eq-ENDED
+pub returns-then-phase-eq-ENDED : goal.returns-then-phase-eq-ENDED
 unfolding queue_event
-returns-then-phase_at-eq-ENDED c = refused c.requires (rw (never_unlawful _ c.requires, ← c.phase_at.ensures, eq-eqb _ _ c.if-phase_at-eq-ENDED.true))
+returns-then-phase-eq-ENDED c = refused (rw (never_unlawful _ c.args.b.now.accepted, ← c.phase.ensures, eq-eqb _ _ c.if-phase-eq-ENDED.true))
 
-pub waiting_at-requires : goal.waiting_at-requires
-waiting_at-requires c = search (whole, rules)
-
-pub returns-then-waiting_at-ge-CAPACITY : goal.returns-then-waiting_at-ge-CAPACITY
+pub returns-then-waiting-ge-CAPACITY : goal.returns-then-waiting-ge-CAPACITY
 unfolding queue_event
-returns-then-waiting_at-ge-CAPACITY c = refused c.requires (rw (never_unlawful _ c.requires, ← c.phase_at.ensures, ne_eqb _ _ c.if-phase_at-eq-ENDED.false, ← c.waiting_at.ensures, le-leb 64 _ c.if-waiting_at-ge-CAPACITY.true))
+returns-then-waiting-ge-CAPACITY c = refused (rw (never_unlawful _ c.args.b.now.accepted, ← c.phase.ensures, ne_eqb _ _ c.if-phase-eq-ENDED.false, ← c.waiting.ensures, le-leb 64 _ c.if-waiting-ge-CAPACITY.true))
 
 pub returns : goal.returns
 unfolding queue_event
-returns c = edited c.push_back.ensures (rw (never_unlawful _ c.requires, ← c.phase_at.ensures, ne_eqb _ _ c.if-phase_at-eq-ENDED.false, ← c.waiting_at.ensures, lt-leb 64 _ c.if-waiting_at-ge-CAPACITY.false))
+returns c = edited c.push_back.ensures (rw (never_unlawful _ c.args.b.now.accepted, ← c.phase.ensures, ne_eqb _ _ c.if-phase-eq-ENDED.false, ← c.waiting.ensures, lt-leb 64 _ c.if-waiting-ge-CAPACITY.false))

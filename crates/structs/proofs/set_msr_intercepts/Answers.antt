@@ -1,12 +1,11 @@
-use mathlib.Core.Path.{ap}
-use mathlib.Core.List.{[], ◌∷◌}
-use Rattle.structs.specs.declared.Access.TheVariants.{Read, Write}
-use Rattle.structs.specs.Frames.{MsrEdit}
-use Rattle.structs.proofs.MsrLaws.{msr_append}
+use mathlib.Core.Path.{sym, ◌∙◌}
+use native.Mathlib.Omega.{arith}
+use lib.ListN.{get_or}
+use Rattle.structs.specs.declared.Access.TheVariants.{Read}
+use Rattle.structs.proofs.MsrLaws.{msr_accepted}
 use Rattle.structs.proofs.set_msr_intercepts.Goals as goal
 
--- the second edit is of what the first leaves
-pub returns : goal.returns
-returns c = let a = c.args in
-    rw (c.set_access-2.ensures, ap (λ (e : MsrEdit). e.frame) c.set_access.ensures)
-    (msr_append a.frame.now a.msr_base a.count (Read ∷ []) (Write ∷ []) a.intercept)
+pub set_bits-requires : goal.set_bits-requires
+set_bits-requires c =
+    let n = msr_accepted (get_or c.args.accesses.now c.loop-access.access-index Read) _ _ _ (sym c.in_ok-msr_refusal.ensures) in
+    (c.loop-access.invariant.0 ∙ n.0, omega arith, omega (arith, n.1, c.quarter.ensures))

@@ -1,18 +1,16 @@
 use mathlib.Core.Path.{◌≡◌, sym, ◌∙◌}
-use borrow.Author.Tests.{ne_eqb}
+use Rattle.std.proofs.lemmas.Result.{err_from_is_err_and}
+use Rattle.definitions.proofs.RefusalLaws.{some}
 use Rattle.vmcs.specs.Fields.{write_refusal}
 use Rattle.vmcs.proofs.FieldLaws.{write_by_refusal, writable}
 use Rattle.vmcs.proofs.vmcs_write.Goals as goal
 
-pub returns-then-refusal-ne0 : goal.returns-then-refusal-ne0
-returns-then-refusal-ne0 c = rw (write_by_refusal, ← c.write_refusal-refusal.ensures, ne_eqb _ _ c.if-refusal-ne0.true)
+pub returns-in_err-place : goal.returns-in_err-place
+returns-in_err-place c = let p = err_from_is_err_and c.from_residual.result c.from_residual.ensures.1 in
+    rw (p.1, p.2, write_by_refusal, ← c.in_err-place.ensures.refusal, some c.in_err-place.field-0.0)
 
-pub put_at-next-requires : goal.put_at-next-requires
-put_at-next-requires c =
-    let accepted : write_refusal c.args.encoding c.args.value ≡ 0 = sym c.write_refusal-refusal.ensures ∙ c.if-refusal-ne0.false in
-    rw c.position-place.ensures (writable _ _ accepted)
+pub put_at-requires : goal.put_at-requires
+put_at-requires c = rw c.in_ok-place.ensures.place (writable _ _ (sym c.in_ok-place.ensures.refusal))
 
 pub returns : goal.returns
-returns c =
-    let accepted : write_refusal c.args.encoding c.args.value ≡ 0 = sym c.write_refusal-refusal.ensures ∙ c.if-refusal-ne0.false in
-    rw (write_by_refusal, accepted, ← c.position-place.ensures, c.put_at-next.ensures)
+returns c = rw (write_by_refusal, ← c.in_ok-place.ensures.refusal, ← c.in_ok-place.ensures.place, c.put_at.ensures)

@@ -1,15 +1,11 @@
-use borrow.Author.Rules.{rules}
-use Rattle.sheet.proofs.LineLaws.{letters_end, letters_low, letters_high, letters_more}
+use Rattle.std.proofs.Common.{◌∙◌, rules}
+use Rattle.std.specs.Char.{is_ascii_lowercase}
+use Rattle.std.proofs.lemmas.Iterator.{YieldsList-from_slice}
+use Rattle.std.proofs.lemmas.Iterator.Search.{all_from_yields_List}
+use Rattle.sheet.proofs.LineLaws.{letters_all}
 use Rattle.sheet.proofs.line.only_letters.Goals as goal
 
-pub returns-then-s-i-lt97 : goal.returns-then-s-i-lt97
-returns-then-s-i-lt97 c = search (letters_low, rules)
-
-pub returns-then-s-i-gt122 : goal.returns-then-s-i-gt122
-returns-then-s-i-gt122 c = search (letters_high, rules)
-
-pub loop-i-preserved : goal.loop-i-preserved
-loop-i-preserved c = search (letters_more, rules)
-
 pub returns : goal.returns
-returns c = search (letters_end, rules)
+returns c =
+    let s = c.args.s.now in
+    all_from_yields_List is_ascii_lowercase _ _ c.all.result c.all.ensures.ran (YieldsList-from_slice s cc) (λ x b q k. search rules) ∙ letters_all s

@@ -1,9 +1,6 @@
-use borrow.Author.Rules.{rules}
 use Rattle.record.proofs.Accepted.{accepted_length}
-use Rattle.vmcs.specs.Fields.{vmcs_read}
-use Rattle.call_specs.specs.Reads.{read_field}
+use Rattle.vmcs.proofs.Lookup.{place_known}
 use Rattle.x86_vcpu.proofs.readings.vcpu_read_field.Goals as goal
 
 pub field_at-requires : goal.field_at-requires
-unfolding read_field vmcs_read
-field_at-requires c = search (accepted_length, rules)
+field_at-requires c = (accepted_length _ _ c.accepts.ensures c.if-accepts.true, (place_known c.args.encoding c.in-Some.place c.in-Some.ensures).0)

@@ -1,4 +1,6 @@
 use native.Mathlib.Omega.{arith}
+use borrow.Author.Rules.{rules}
+use Rattle.session_edits.proofs.Ends.{on_record}
 use Rattle.vcpu_events.specs.Access.{apic_value}
 use Rattle.record.specs.Codec.{session_of}
 use Rattle.call_specs.proofs.Calls.{no_record, called}
@@ -7,8 +9,8 @@ use Rattle.x86_vcpu.proofs.session.vcpu_apic_value.Goals as goal
 
 pub returns-then-accepts : goal.returns-then-accepts
 returns-then-accepts c = let a = c.args in
-    called (λ s. apic_value s a.value) c.accepts.ensures c.if-accepts.true (apic_stays (session_of a.bytes.now) a.value)
-    (λ i. omega (arith, c.slice_known-1.given i)) (λ i. omega (arith, c.slice_known-then-accepts-1.given i)) c.apic_value.ensures
+    rw c.refusal_of.ensures (called (λ s. apic_value s a.value) c.accepts.ensures c.if-accepts.true (apic_stays (session_of a.bytes.now) a.value)
+    (λ i. omega (arith, c.slice_known-1.given i)) (λ i. (c.type_inv.bytes i).fits) (on_record c.apic_value.ensures c.new.ensures.value (search rules)))
 
 pub returns-else-accepts : goal.returns-else-accepts
 returns-else-accepts c = let a = c.args in

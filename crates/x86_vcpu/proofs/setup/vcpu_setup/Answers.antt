@@ -1,4 +1,5 @@
-use mathlib.Core.Path.{sym, ap, ◌∙◌}
+use mathlib.Core.Path.{refl, sym, ap, ◌∙◌}
+use Rattle.definitions.proofs.RefusalLaws.{positive}
 use borrow.Author.Rules.{rules}
 use Rattle.structs.specs.Frames.{PortEdit, MsrEdit}
 use Rattle.call_specs.proofs.SetupCalls.{setup_no_record, record_length, block_length, setup_early, setup_refused, setup_stored}
@@ -13,9 +14,9 @@ returns-then-phase_at-ne-FRESH c = setup_early _ _ _ _ _ c.setup_accepts.ensures
 pub arguments_at-arguments-requires : goal.arguments_at-arguments-requires
 arguments_at-arguments-requires c = block_length _ _ _ _ _ c.setup_accepts.ensures c.if-setup_accepts.true
 
-pub returns-then-refusal-ne0 : goal.returns-then-refusal-ne0
-returns-then-refusal-ne0 c = setup_refused _ _ _ _ _ c.setup_accepts.ensures c.if-setup_accepts.true (sym c.phase_at.ensures ∙ c.if-phase_at-ne-FRESH.false) c.arguments_at-arguments.ensures c.capabilities_of-capabilities.ensures
-    c.capability_refusal-refusal.ensures c.if-refusal-ne0.true
+pub returns-in-Err : goal.returns-in-Err
+returns-in-Err c = rw c.from.ensures (setup_refused _ _ _ _ _ c.setup_accepts.ensures c.if-setup_accepts.true (sym c.phase_at.ensures ∙ c.if-phase_at-ne-FRESH.false) c.arguments_at-arguments.ensures
+    c.capabilities_of-capabilities.ensures c.in-Err.ensures (positive c.in-Err.refusal _ refl))
 
 pub session_at-s-requires : goal.session_at-s-requires
 session_at-s-requires c = record_length _ _ _ _ _ c.setup_accepts.ensures c.if-setup_accepts.true
@@ -23,10 +24,10 @@ session_at-s-requires c = record_length _ _ _ _ _ c.setup_accepts.ensures c.if-s
 pub put_session-requires : goal.put_session-requires
 put_session-requires c = search (record_length _ _ _ _ _ c.setup_accepts.ensures c.if-setup_accepts.true, rules)
 
-pub returns-else-refusal-ne0 : goal.returns-else-refusal-ne0
-returns-else-refusal-ne0 c = let put = c.put_session.ensures in
+pub returns-in-Ok : goal.returns-in-Ok
+returns-in-Ok c = let put = c.put_session.ensures in
     setup_stored _ _ _ _ _ c.setup_accepts.ensures c.if-setup_accepts.true (sym c.phase_at.ensures ∙ c.if-phase_at-ne-FRESH.false) c.arguments_at-arguments.ensures c.capabilities_of-capabilities.ensures
-    c.capability_refusal-refusal.ensures c.if-refusal-ne0.false c.session_at-s.ensures c.ready-t.ensures put.b_after put.fitting
+    c.in-Ok.ensures refl c.session_at-s.ensures c.ready-t.ensures put.b_after put.fitting
     (ap (λ (e : PortEdit). e.a) c.setup_io_bitmap.ensures)
     (ap (λ (e : PortEdit). e.b) c.setup_io_bitmap.ensures)
     (ap (λ (e : MsrEdit). e.frame) c.setup_msr_bitmap.ensures)

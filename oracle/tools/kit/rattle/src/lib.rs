@@ -6,8 +6,13 @@ use std::fmt;
 #[derive(Clone, Copy)]
 pub struct HostRuntime;
 
-impl HostRuntime {
-    pub fn reader(&self) -> std::io::Stdin {
+/// What reads standard input.
+pub trait Input {
+    fn reader(&self) -> std::io::Stdin;
+}
+
+impl Input for HostRuntime {
+    fn reader(&self) -> std::io::Stdin {
         std::io::stdin()
     }
 }

@@ -1,4 +1,0 @@
-use Rattle.guest_paging.proofs.+walk_level.Given as goal
-
-abbrev pub decreases-walk_level : goal.decreases-walk_level
-decreases-walk_level l = l.level

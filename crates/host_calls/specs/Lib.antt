@@ -1,0 +1,2 @@
+-- The definitions that the contracts of `host_calls` cite.
+pub mod Answers

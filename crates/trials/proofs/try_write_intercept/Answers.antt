@@ -1,9 +1,0 @@
-use Rattle.call_specs.specs.Calls.{writes}
-use Rattle.trials.proofs.FrameTrials.{edit_refused, edit_shown}
-use Rattle.trials.proofs.try_write_intercept.Goals as goal
-
-pub returns-then-number-ne0 : goal.returns-then-number-ne0
-returns-then-number-ne0 c = edit_refused writes _ _ _ _ c.show_frame-number.ensures c.if-number-ne0.true
-
-pub returns : goal.returns
-returns c = edit_shown writes _ _ _ _ c.show_frame-number.ensures c.if-number-ne0.false c.set_write_intercept.ensures

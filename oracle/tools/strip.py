@@ -62,6 +62,7 @@ def stripped(text):
     text = re.sub(r"^[ \t]*#!?\[(?:tactic|cycle)\b.*?\]\n", "", text, flags=re.M | re.S)
     text = re.sub(r"^[ \t]*#\[derive\(Drop\)\]\n|(?::| \+) Drop\b", "", text, flags=re.M)
     text = re.sub(r"\bstd::(io|fs)\b", r"rattle::\1", text)
+    text = text.replace("std::convert::AsSlice", "rattle::AsSlice")
     text = text.replace("fn fmt<W: fmt::Write>(&self, f: &mut Formatter<W>)", "fn fmt(&self, f: &mut Formatter)")
     text = re.sub(r"^fn main\((\w+): HostRuntime\)(.*)\{$", r"fn main()\2{ let \1 = HostRuntime;", text, flags=re.M)
     return "use rattle::{print, println, HostRuntime, Input, Print};\n" + text

@@ -7,6 +7,7 @@ ghost use Rattle.std.specs.Prelude.{◌≡◌, true, ℕ, ◌<◌};
 ghost use Rattle.vcpu_session.specs.Session.{LAST_ENTRY, with_vmcs, with_queue};
 ghost use Rattle.vcpu_events.specs.Queue.{event_of, given, front_of};
 ghost use Rattle.vcpu_events.specs.Entry.{injection_of, code_goes_in, word_of, code_of, with_code, with_length, injected, with_stack, window_set, vmcs_after, queue_after, after_entry, entry};
+ghost use Rattle.record.specs.Codec.{session_of, accepted_of};
 ghost use Rattle.record_edits.specs.Edited.{session, Edited};
 
 use record::Record;
@@ -20,28 +21,30 @@ use vmcs::names::{VmcsControl32, VmcsGuest32, VmcsGuestNW, VmcsHostNW, VmcsReadO
 // ---- What an entry reads.
 
 // The front of the queue: the record's code where the queue says that it has one.
-#[tactic(auto, unfolding(record::specs::Codec::session_of))]
-fn front_at(b: &SessionRecord) -> Event
-    ensures { result ≡ given (front_of (session b.now).queue) }
+#[tactic(auto, using(record::proofs::Accepted::whole), unfolding(record::specs::Codec::session_of))]
+fn front_at(b: &[u8]) -> Event
+    requires { accepted_of b.now ≡ true }
+    ensures { result ≡ given (front_of (session_of b.now).queue) }
 {
-    let bytes = b.bytes();
-    Event {
-        vector: u8::get(bytes, Record::VECTORS),
-        code: (record::coded_at(bytes) % 2 == 1).then_some(u32::get(bytes, Record::CODES)),
-    }
+    Event::new(
+        u8::get(b, Record::VECTORS),
+        record::coded_at(b) % 2 == 1,
+        u32::get(b, Record::CODES),
+    )
 }
 
-// What the next entry does with the front of the queue.
-#[tactic(auto, unfolding(vcpu_events::specs::Entry::injection_of))]
-pub fn injection_at(b: &SessionRecord) -> Injection
-    ensures { result ≡ injection_of (session b.now).queue (session b.now).vmcs }
+// What the next entry does with the front of the queue. The record is bytes and no `SessionRecord`, which is lent for changes: whoever only reads one may ask.
+#[tactic(auto, using(record::proofs::Accepted::whole), unfolding(vcpu_events::specs::Entry::injection_of))]
+pub fn injection_at(b: &[u8]) -> Injection
+    requires { accepted_of b.now ≡ true }
+    ensures { result ≡ injection_of (session_of b.now).queue (session_of b.now).vmcs }
 {
-    if b.waiting() == 0 {
+    if record::waiting_at(b) == 0 {
         return Injection::Empty;
     }
     let front = front_at(b);
-    let rflags = record::natural_at(b.bytes(), VmcsGuestNW::RFLAGS);
-    let interruptibility = record::w32_at(b.bytes(), VmcsGuest32::INTERRUPTIBILITY_STATE);
+    let rflags = record::natural_at(b, VmcsGuestNW::RFLAGS);
+    let interruptibility = record::w32_at(b, VmcsGuest32::INTERRUPTIBILITY_STATE);
     if vcpu_events::is_held(front.vector, rflags, interruptibility) {
         return Injection::Held;
     }
@@ -167,7 +170,7 @@ pub fn after_entry(b: &mut SessionRecord, stack: u64, injection: Injection)
     ensures { Edited b.old b.new (λ s. after_entry s stack injection) }
 {
     let p = b.progress();
-    let front = front_at(b);
+    let front = front_at(b.bytes());
     let next = vcpu_events::progress_after(p, injection);
     put_stack(b, p.launched, stack);
     put_injection(b, front, injection);

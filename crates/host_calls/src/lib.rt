@@ -78,9 +78,10 @@ impl HeldSession {
     }
 
     pub fn read_field(&self, encoding: u64) -> Result<u64, u32>
-        ensures { result ≡ of_reading (read_field self.now.bytes encoding 0) }
+        ensures { result ≡ of_reading (read_field self.now.bytes encoding 1) }
     {
-        let mut value: u64 = 0;
+        // No field is 1 in a new session: a result that is not written shows.
+        let mut value: u64 = 1;
         let refusal = vcpu_read_field(&self.bytes, encoding, &mut value);
         answered(refusal, value)
     }

@@ -1,8 +1,10 @@
 -- The text of lists: each is a comment, and then a case to a line, small hexadecimal numbers parted by blanks. Assumes nothing.
-use Rattle.std.specs.Prelude.{◌≡◌, ℕ, suc, ◌+◌, ◌*◌, ◌/◌, ◌%◌, ◌^◌, ◌≤◌, min, max, cond, List, [], ◌∷◌, ltb, eqb, length, take, drop}
+use Rattle.std.specs.Prelude.{◌≡◌, ℕ, suc, ◌+◌, ◌*◌, ◌/◌, ◌%◌, ◌^◌, ◌≤◌, min, max, cond, List, [], ◌∷◌, ltb, eqb, length, take, drop, Option, MatchOption}
 use Prim.Native.Char.{code}
 use Rattle.replay.specs.declared.text.Number.{Number}
 use Rattle.replay.specs.declared.text.Case.{Case}
+use Rattle.replay.specs.declared.text.Line.{Line}
+use Rattle.replay.specs.declared.text.Lines.{Lines}
 
 -- the value of a digit: letters, and no decimal digits, have bit 6
 abbrev pub digit_value : ℕ → ℕ
@@ -47,3 +49,12 @@ line_end (b ∷ rest) = cond (eqb b (code "\n")) 1 (suc (line_end rest))
 -- `text[..n]` is in bounds and has n bytes
 abbrev pub IsPrefixLen : ℕ → List ℕ → Type 0
 IsPrefixLen n text = (n ≤ length text) × (n ≡ length (take n text))
+
+-- the line at a place, and the place after it: a comment goes on to its line feed, and is that line; a case is its numbers
+abbrev pub IsLine : List ℕ → ℕ → Line → ℕ → Type 0
+IsLine text at (Line.Comment c) next = (next ≡ at + line_end (drop at text)) × (c.now ≡ take (line_end (drop at text)) (drop at text))
+IsLine text at (Line.Case numbers) next = (next ≡ (case_at text at).next) × (numbers ≡ (case_at text at).numbers)
+
+-- a call gave the line at the place, and went on to the place after it; or the text ended there
+abbrev pub StepsLine : Lines → Option Line → Lines → Type 0
+StepsLine old line new = MatchOption line (length old.text.now ≤ old.at) (λ l. IsLine old.text.now old.at l new.at × (new.text.now ≡ old.text.now))

@@ -3,6 +3,7 @@ ghost use Rattle.std.specs.Prelude.{◌≡◌};
 ghost use Rattle.replay.specs.Lines.{answered};
 
 use crate::numbers::{Arguments, Numbers};
+use std::convert::AsSlice;
 use std::io;
 
 // The result of a call that answers 0 or the number of its refusal.
@@ -17,14 +18,20 @@ pub fn answered<T: Drop>(refusal: u32, value: T) -> Result<T, u32>
 }
 
 // Prints what a call answered, and ends the line. A call with no results is `accepted` where it is not refused.
-pub fn print_answer<const N: usize>(
+pub fn print_answer<V: AsSlice<u64> + Drop>(
     rt: &impl Print,
-    answer: Result<[u64; N], u32>,
+    answer: Result<V, u32>,
 ) -> io::Result<()> {
     match answer {
         Err(refusal) => println!(rt; "refused {refusal}"),
-        Ok(_) if N == 0 => println!(rt; "accepted"),
-        Ok(results) => println!(rt; "{}", Numbers(&results)),
+        Ok(results) => {
+            let numbers = results.as_slice();
+            if numbers.is_empty() {
+                println!(rt; "accepted")
+            } else {
+                println!(rt; "{}", Numbers(numbers))
+            }
+        }
     }
 }
 

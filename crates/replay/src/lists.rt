@@ -6,10 +6,18 @@ use std::fmt::{self, Display, Formatter};
 use std::str::FromStr;
 use std::{io, str};
 
-// A list by the oracle's name, with what its cases go on with from one to the next. It is parsed anew at each comment.
+// A list by the oracle's name. What its cases go on with from one to the next stands beside it: a comment chooses a list, and copies no state.
 pub trait List: FromStr<Err = UnknownList> + Drop {
+    type State: Drop;
+
+    // The state of a program that has answered no case.
+    fn new_state() -> Self::State;
+
+    // Begins the list: its part of the state is as new.
+    fn begin(&self, state: &mut Self::State);
+
     // Prints the answer to one case.
-    fn answer(&mut self, rt: &impl Print, numbers: [u64; 8]) -> io::Result<()>;
+    fn answer(&self, rt: &impl Print, state: &mut Self::State, numbers: [u64; 8]) -> io::Result<()>;
 }
 
 // No list that the program answers has this name.
@@ -22,25 +30,37 @@ impl Display for UnknownList {
     }
 }
 
-// The list whose comment this is: the name stands after `# `, before the first comma.
+// No list has a longer name.
+const LONGEST_NAME: usize = 32;
+
+// The list whose comment this is: the name stands after `# `, before the first comma. No more of a comment is read than a name may have.
 fn list_of<L: List>(comment: &[u8]) -> Result<L, UnknownList> {
     let rest = comment.strip_prefix(b"# ").ok_or(UnknownList)?;
-    let end = rest.iter().position(|b| *b == b',').ok_or(UnknownList)?;
+    let start = &rest[..rest.len().min(LONGEST_NAME + 1)];
+    let end = start.iter().position(|b| *b == b',').ok_or(UnknownList)?;
     let name = str::from_utf8(&rest[..end]).map_err(|_| UnknownList)?;
     name.parse()
 }
 
+// Begins the list whose comment this is.
+fn begin<L: List>(comment: &[u8], state: &mut L::State) -> Result<L, UnknownList> {
+    let list = list_of::<L>(comment)?;
+    list.begin(state);
+    Ok(list)
+}
+
 // Copies each comment, and prints the answer to each case.
 fn answer_all<L: List>(rt: &impl Print, text: &[u8]) -> io::Result<()> {
+    let mut state = L::new_state();
     let mut list: Result<L, UnknownList> = Err(UnknownList);
     for line in Lines::new(text) {
         match line {
             Line::Comment(comment) => {
                 rt.write_all(comment)?;
-                list = list_of(comment);
+                list = begin(comment, &mut state);
             }
-            Line::Case(numbers) => match &mut list {
-                Ok(list) => list.answer(rt, numbers)?,
+            Line::Case(numbers) => match &list {
+                Ok(list) => list.answer(rt, &mut state, numbers)?,
                 Err(unknown) => println!(rt; "{unknown}")?,
             },
         }
@@ -49,7 +69,7 @@ fn answer_all<L: List>(rt: &impl Print, text: &[u8]) -> io::Result<()> {
 }
 
 // 1,048,576 zeros: room for the lists that a program reads. On the heap the programs would rest on the C library's allocation too.
-fn buffer() -> [u8; 0x10_0000]
+pub fn buffer() -> [u8; 0x10_0000]
     ensures { 0x100000 ≡ length result }
 {
     [0; 0x10_0000]

@@ -1,7 +1,7 @@
 // The text of lists: each is a comment, and then a case to a line, small hexadecimal numbers parted by blanks.
 ghost use Rattle.std.specs.Prelude.{◌≡◌, ◌+◌, ◌-◌, ◌≤◌, min, length};
 ghost use Rattle.std.specs.Iterator.{at_most};
-ghost use Rattle.replay.specs.Text.{digit_value, number_at, IsPrefixLen, after_byte, case_at, line_end};
+ghost use Rattle.replay.specs.Text.{digit_value, number_at, IsPrefixLen, after_byte, case_at, line_end, StepsLine};
 
 // A number, and the place after it and its blank.
 #[derive(Drop)]
@@ -110,6 +110,8 @@ impl<'a> Lines<'a> {
 
 impl<'a> Iterator for Lines<'a> {
     type Item = Line<'a>;
+
+    ghost next_gives = { StepsLine };
 
     ghost remaining = { λ s. at_most (length s.text.now - s.at) };
 

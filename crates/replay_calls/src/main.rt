@@ -15,13 +15,20 @@ use std::str::FromStr;
 use structs::FRAME_SIZE;
 use vcpu_session::Phase;
 
-// The lists, by the oracle's names. Those of changes hold what their cases go on with.
-#[derive(Drop)]
+// The lists, by the oracle's names.
+#[derive(Clone, Copy)]
 enum List {
     InjectEvent,
-    Setup([u64; 44]),
+    Setup,
     ExitInfo,
-    ExitReport(Reports),
+    ExitReport,
+}
+
+// What the cases of the lists of changes go on with.
+#[derive(Drop)]
+struct State {
+    arguments: [u64; 44],
+    reports: Reports,
 }
 
 impl FromStr for List {
@@ -30,32 +37,57 @@ impl FromStr for List {
     fn from_str(name: &str) -> Result<Self, UnknownList> {
         match name {
             "inject_event" => Ok(List::InjectEvent),
-            "setup" => Ok(List::Setup([0; 44])),
+            "setup" => Ok(List::Setup),
             "exit_info" => Ok(List::ExitInfo),
-            "exit_report" => Ok(List::ExitReport(Reports::new())),
+            "exit_report" => Ok(List::ExitReport),
             _ => Err(UnknownList),
         }
     }
 }
 
 impl replay::List for List {
-    fn answer(&mut self, rt: &impl Print, numbers: [u64; 8]) -> io::Result<()> {
-        match self {
-            List::InjectEvent => inject_event::inject_event(rt, numbers),
-            List::Setup(arguments) => answer_setup(rt, arguments, numbers),
-            List::ExitInfo => exit_info(rt, numbers),
-            List::ExitReport(reports) => reports.answer(rt, numbers),
+    type State = State;
+
+    fn new_state() -> State {
+        State {
+            arguments: [0; 44],
+            reports: Reports {
+                bytes: new_record(),
+                numbers: [0; 46],
+            },
         }
     }
+
+    fn begin(&self, state: &mut State) {
+        match self {
+            List::Setup => state.arguments = [0; 44],
+            List::ExitReport => state.reports.begin(),
+            _ => {}
+        }
+    }
+
+    fn answer(&self, rt: &impl Print, state: &mut State, numbers: [u64; 8]) -> io::Result<()> {
+        match self {
+            List::InjectEvent => inject_event::inject_event(rt, numbers),
+            List::Setup => answer_setup(rt, &mut state.arguments, numbers),
+            List::ExitInfo => exit_info(rt, numbers),
+            List::ExitReport => state.reports.answer(rt, numbers),
+        }
+    }
+}
+
+// Makes bytes the record of a new session.
+fn put_new_record(bytes: &mut [u8; Record::LENGTH]) {
+    let mut a = [0u8; FRAME_SIZE];
+    let mut b = [0u8; FRAME_SIZE];
+    let mut msr = [0u8; FRAME_SIZE];
+    x86_vcpu::session::vcpu_new(bytes, &mut a, &mut b, &mut msr);
 }
 
 // The record of a new session.
 fn new_record() -> [u8; Record::LENGTH] {
     let mut bytes = [0xFFu8; Record::LENGTH];
-    let mut a = [0u8; FRAME_SIZE];
-    let mut b = [0u8; FRAME_SIZE];
-    let mut msr = [0u8; FRAME_SIZE];
-    x86_vcpu::session::vcpu_new(&mut bytes, &mut a, &mut b, &mut msr);
+    put_new_record(&mut bytes);
     bytes
 }
 
@@ -153,11 +185,10 @@ struct Reports {
 }
 
 impl Reports {
-    fn new() -> Self {
-        Reports {
-            bytes: new_record(),
-            numbers: [0; 46],
-        }
+    // A new session, and no numbers.
+    fn begin(&mut self) {
+        put_new_record(&mut self.bytes);
+        self.numbers = [0; 46];
     }
 
     // One change: of a number by its place, or of a field by its encoding.

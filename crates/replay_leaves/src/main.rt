@@ -17,13 +17,20 @@ struct IoBitmaps {
     b: [u8; FRAME_SIZE],
 }
 
-// The lists, by the oracle's names. Those of edits hold the frames that their cases go on with.
+// The frames that the cases of the lists of edits go on with.
 #[derive(Drop)]
+struct State {
+    bitmaps: IoBitmaps,
+    msr: [u8; FRAME_SIZE],
+}
+
+// The lists, by the oracle's names.
+#[derive(Clone, Copy)]
 enum List {
     SetControl,
     Encodings,
-    IoIntercepts(IoBitmaps),
-    MsrIntercepts([u8; FRAME_SIZE]),
+    IoIntercepts,
+    MsrIntercepts,
     GetCpuMode,
     GetPtwInfo,
     Gla2gva,
@@ -36,11 +43,8 @@ impl FromStr for List {
         match name {
             "set_control" => Ok(List::SetControl),
             "encodings" => Ok(List::Encodings),
-            "io_intercepts" => Ok(List::IoIntercepts(IoBitmaps {
-                a: [0; FRAME_SIZE],
-                b: [0; FRAME_SIZE],
-            })),
-            "msr_intercepts" => Ok(List::MsrIntercepts([0; FRAME_SIZE])),
+            "io_intercepts" => Ok(List::IoIntercepts),
+            "msr_intercepts" => Ok(List::MsrIntercepts),
             "get_cpu_mode" => Ok(List::GetCpuMode),
             "get_ptw_info" => Ok(List::GetPtwInfo),
             "gla2gva" => Ok(List::Gla2gva),
@@ -50,12 +54,35 @@ impl FromStr for List {
 }
 
 impl replay::List for List {
-    fn answer(&mut self, rt: &impl Print, numbers: [u64; 8]) -> io::Result<()> {
+    type State = State;
+
+    fn new_state() -> State {
+        State {
+            bitmaps: IoBitmaps {
+                a: [0; FRAME_SIZE],
+                b: [0; FRAME_SIZE],
+            },
+            msr: [0; FRAME_SIZE],
+        }
+    }
+
+    fn begin(&self, state: &mut State) {
+        match self {
+            List::IoIntercepts => {
+                state.bitmaps.a.fill(0);
+                state.bitmaps.b.fill(0);
+            }
+            List::MsrIntercepts => state.msr.fill(0),
+            _ => {}
+        }
+    }
+
+    fn answer(&self, rt: &impl Print, state: &mut State, numbers: [u64; 8]) -> io::Result<()> {
         match self {
             List::SetControl => set_control(rt, numbers),
             List::Encodings => encodings::encodings(rt, numbers),
-            List::IoIntercepts(bitmaps) => io_intercepts(rt, bitmaps, numbers),
-            List::MsrIntercepts(frame) => msr_intercepts(rt, frame, numbers),
+            List::IoIntercepts => io_intercepts(rt, &mut state.bitmaps, numbers),
+            List::MsrIntercepts => msr_intercepts(rt, &mut state.msr, numbers),
             List::GetCpuMode => readings::get_cpu_mode(rt, numbers),
             List::GetPtwInfo => readings::get_ptw_info(rt, numbers),
             List::Gla2gva => readings::gla2gva(rt, numbers),

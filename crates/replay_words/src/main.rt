@@ -13,8 +13,8 @@ use std::io;
 use std::str::FromStr;
 use vmcs::Vmcs;
 
-// The lists, by the oracle's names. Registers and fields hold what their cases go on with.
-#[derive(Drop)]
+// The lists, by the oracle's names.
+#[derive(Clone, Copy)]
 enum List {
     SetCr,
     UpdateEfer,
@@ -23,8 +23,15 @@ enum List {
     IoExitInfo,
     CrAccessInfo,
     InterruptExitInfo,
-    Registers(GeneralRegisters),
-    Fields(Vmcs),
+    Registers,
+    Fields,
+}
+
+// What the cases of the registers and of the fields go on with.
+#[derive(Drop)]
+struct State {
+    registers: GeneralRegisters,
+    fields: Vmcs,
 }
 
 fn no_fields() -> Vmcs {
@@ -48,15 +55,32 @@ impl FromStr for List {
             "io_exit_info" => Ok(List::IoExitInfo),
             "cr_access_info" => Ok(List::CrAccessInfo),
             "interrupt_exit_info" => Ok(List::InterruptExitInfo),
-            "registers" => Ok(List::Registers(GeneralRegisters::from([0; 16]))),
-            "fields" => Ok(List::Fields(no_fields())),
+            "registers" => Ok(List::Registers),
+            "fields" => Ok(List::Fields),
             _ => Err(UnknownList),
         }
     }
 }
 
 impl replay::List for List {
-    fn answer(&mut self, rt: &impl Print, numbers: [u64; 8]) -> io::Result<()> {
+    type State = State;
+
+    fn new_state() -> State {
+        State {
+            registers: GeneralRegisters::from([0; 16]),
+            fields: no_fields(),
+        }
+    }
+
+    fn begin(&self, state: &mut State) {
+        match self {
+            List::Registers => state.registers = GeneralRegisters::from([0; 16]),
+            List::Fields => state.fields = no_fields(),
+            _ => {}
+        }
+    }
+
+    fn answer(&self, rt: &impl Print, state: &mut State, numbers: [u64; 8]) -> io::Result<()> {
         match self {
             List::SetCr => controls::set_cr(rt, numbers),
             List::UpdateEfer => controls::update_efer(rt, numbers),
@@ -65,8 +89,8 @@ impl replay::List for List {
             List::IoExitInfo => exits::io_exit_info(rt, numbers),
             List::CrAccessInfo => exits::cr_access_info(rt, numbers),
             List::InterruptExitInfo => exits::interrupt_exit_info(rt, numbers),
-            List::Registers(registers) => answer_registers(rt, registers, numbers),
-            List::Fields(fields) => answer_fields(rt, fields, numbers),
+            List::Registers => answer_registers(rt, &mut state.registers, numbers),
+            List::Fields => answer_fields(rt, &mut state.fields, numbers),
         }
     }
 }

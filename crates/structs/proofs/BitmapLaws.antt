@@ -227,7 +227,7 @@ one_store xs i v b f =
     ∙ ap (bit (m % 8)) (get_or-set_same xs i (full_byte v) 0 f) ∙ bit_full_byte v (m % 8) (omega arith))
     (λ o. ap (bit (m % 8)) (get_or-set_other xs i (m / 8) (full_byte v) 0 (λ (e : m / 8 ≡ i). o (omega arith) (omega arith))))))
 
-next_byte : (xs : List ℕ) (n i : ℕ) (v : Bool) → Below 256 xs → n ≤ 8 * i → i < length xs
+pub next_byte : (xs : List ℕ) (n i : ℕ) (v : Bool) → Below 256 xs → n ≤ 8 * i → i < length xs
     → set (set_bits xs n (8 * i - n) v) i (full_byte v) ≡ set_bits xs n (8 * (i + 1) - n) v
 next_byte xs n i v b h f =
     let e : 8 * (i + 1) - 8 * i ≡ 8 = omega arith in

@@ -57,12 +57,15 @@ fn set_each(frame: &mut [u8], from: usize, to: usize, v: bool)
     }
 }
 
-// Sets all bits of the bytes first..last of the frame to v.
+// Sets all bits of the bytes first..last of the frame to v. A `fill` would need more stack in each call that edits a frame.
 fn set_bytes(frame: &mut [u8], first: usize, last: usize, v: bool)
     requires { (first ≤ last) × (last ≤ length frame.old) }
     ensures { frame.new ≡ set_bits frame.old (8 * first) (8 * last - 8 * first) v }
 {
-    frame[first..last].fill(full_byte(v));
+    let full = full_byte(v);
+    for i in first..last {
+        frame[i] = full;
+    }
 }
 
 // Sets the bits from..to of the frame to v: those up to a byte's start, whole bytes, and those that are left. Whole bytes make a long
@@ -115,9 +118,8 @@ fn set_ports(a: &mut [u8], b: &mut [u8], from: usize, count: usize, v: bool)
     let to = from + count;
     let from_a = from.min(FIRST_PORT_OF_B);
     let to_a = to.min(FIRST_PORT_OF_B);
-    // B first: then four numbers wait for the second call, and not six, and a call needs less stack.
-    set_bits(b, from - from_a, to - to_a, v);
     set_bits(a, from_a, to_a, v);
+    set_bits(b, from - from_a, to - to_a, v);
 }
 
 // The refusal of an edit of count ports from port_base on, in frames of these lengths.

@@ -1,5 +1,6 @@
-// Text put into a buffer piece by piece.
-ghost use Rattle.std.specs.Prelude.{◌≡◌};
+// Text put into a buffer, at a place or piece by piece.
+ghost use Rattle.std.specs.Prelude.{◌≡◌, ◌+◌, ◌≤◌, length};
+ghost use Rattle.text.specs.Put.{put_at};
 
 // A buffer, and how much of it is written.
 #[derive(Drop)]
@@ -35,4 +36,18 @@ impl<'a> Writer<'a> {
     {
         self.written
     }
+}
+
+// Puts a text into a buffer at a place, and answers the place after it.
+pub fn put(buffer: &mut [u8], at: usize, text: &[u8]) -> usize
+    requires { at + length text.now ≤ length buffer.old }
+    ensures value { result ≡ at + length text.now }
+    ensures buffer_after { buffer.new ≡ put_at buffer.old at text.now }
+{
+    let mut writer = Writer {
+        buffer,
+        written: at,
+    };
+    writer.put(text);
+    writer.written()
 }

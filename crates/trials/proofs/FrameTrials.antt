@@ -86,6 +86,13 @@ module _ (accesses : List Access) (frame : List ℕ) (msr v : ℕ) where
 pub msr_refusing : (accesses : List Access) (msr v : ℕ) → Refusing (msr_on accesses msr v)
 msr_refusing accesses msr v = record { keeps = λ f x. msr_keeps accesses f msr v; other = λ f x. msr_never accesses f msr v }
 
+-- an edit of no access leaves the frame as it is
+pub no_access : (frame : List ℕ) (msr v : ℕ) → (msr_call [] frame msr v).frame ≡ frame
+unfolding msr_call edit_msrs set_msrs
+no_access frame msr v =
+    cond_all (λ (c : MsrEdit). c.frame ≡ frame) (ltb 1 v) _ _ (λ _. refl)
+    (λ _. cond_all (λ (l : List ℕ). l ≡ frame) (eqb (msr_refusal (length frame) msr (msr + 1)) 0) _ _ (λ _. refl) (λ _. refl))
+
 -- the edit on a copy of the frame
 pub msr_shown : (accesses : List Access) (frame shown : List ℕ) (msr v : ℕ) → v ≤ 1 → {n : ℕ} → n ≡ msr_refusal (length frame) msr (msr + 1) → same_length frame shown ≡ true → n ≡ 0
     → {copy : List ℕ} → copy ≡ frame → {r : ℕ} {after : List ℕ} → record { refusal = r; frame = after } ≡ edit_msrs copy msr 1 accesses (eqb v 1)

@@ -6,6 +6,7 @@
 ghost use Rattle.std.specs.Prelude.{◌≡◌, ◌<◌, ◌≤◌};
 ghost use Rattle.bits.specs.Words.{with_bit};
 ghost use Rattle.vcpu_session.specs.Session.{LAST_ENTRY};
+ghost use Rattle.vcpu_events.specs.Queue.{given};
 ghost use Rattle.vcpu_events.specs.Entry.{is_held, code_in, progress_after, injection_number};
 
 use vcpu_session::{Phase, Progress};
@@ -16,6 +17,18 @@ use vmcs::flags::{Cr0Flags, RFlags};
 pub struct Event {
     pub vector: u8,
     pub code: Option<u32>,
+}
+
+impl Event {
+    // The event of three numbers, as C gives them and as the record has them: the code is one only where it is `coded`.
+    pub fn new(vector: u8, coded: bool, code: u32) -> Event
+        ensures { result ≡ given (record { vector = vector; coded = coded; code = code }) }
+    {
+        Event {
+            vector,
+            code: coded.then_some(code),
+        }
+    }
 }
 
 // What an entry does with the front of the queue: the queue is empty, the event is held back, or its word is written.

@@ -205,7 +205,8 @@ pub fn numbers(rt: &impl Print) -> io::Result<()> {
 // ---- The record: its length and its phase.
 
 fn record(rt: &impl Print, bytes: &[u8], phase: u8, length: usize) -> io::Result<()> {
-    let memory = crate::memory_of(4, 0);
+    let mut memory = [0; MEMORY];
+    crate::put_tables(&mut memory, 4, 0);
     print!(rt; "record of {:x}, phase {phase}", bytes.len())?;
     print_walk(rt, bytes, &memory, length, crate::address_of(4), Way::Read)
 }

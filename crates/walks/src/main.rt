@@ -250,14 +250,12 @@ fn open_of(levels: u8, level: u8) -> u64 {
     }
 }
 
-// The tables, with every entry open.
-fn memory_of(levels: u8, tested: u8) -> [u8; MEMORY] {
-    let mut memory = [0u8; MEMORY];
+// Puts the tables, with every entry open, into memory that is 0. An array that is answered would be copied to where the caller has it.
+fn put_tables(memory: &mut [u8; MEMORY], levels: u8, tested: u8) {
     for level in 1..=levels {
         let entry = table_of(level - 1, tested) | open_of(levels, level);
-        put_entry(&mut memory, levels, place_of(levels, level, tested), entry);
+        put_entry(memory, levels, place_of(levels, level, tested), entry);
     }
-    memory
 }
 
 // ---- The mark of a walk
@@ -373,9 +371,9 @@ impl Kind {
         place_of(self.levels, self.level, self.level)
     }
 
-    // The tables, with this entry under test.
-    fn memory(self) -> [u8; MEMORY] {
-        memory_of(self.levels, self.level)
+    // Puts the tables, with this entry under test.
+    fn put_tables(self, memory: &mut [u8; MEMORY]) {
+        put_tables(memory, self.levels, self.level);
     }
 
     fn put(self, memory: &mut [u8; MEMORY], entry: u64) {

@@ -1,6 +1,6 @@
 // Of each rule that an entry can break: the smallest one that breaks it first; that one with the bit turned of which the rule speaks; and the smallest one with the flag turned of which it speaks, if it
 // does. Rules are numbers as C answers them: this program is to notice a wrong one, and uses none of the core's enums.
-use crate::{Access, Answer, Kind, Way};
+use crate::{Access, Answer, Kind, MEMORY, Way};
 use std::fmt::{Display, Formatter};
 use std::{fmt, io};
 
@@ -33,7 +33,8 @@ impl Display for Met {
 
 fn meet(k: Kind, access: Access, entry: u64) -> Met {
     let bytes = k.record(access);
-    let mut memory = k.memory();
+    let mut memory = [0; MEMORY];
+    k.put_tables(&mut memory);
     k.put(&mut memory, entry);
     Met {
         access,

@@ -129,7 +129,8 @@ impl Sweep {
         }
         print!(rt; ":")?;
         let mut bytes = kind.record(access);
-        let mut memory = kind.memory();
+        let mut memory = [0; MEMORY];
+        kind.put_tables(&mut memory);
         for number in 0..count {
             let answer = self.walk(&mut bytes, &mut memory, number);
             crate::print_mark(rt, self.mark(answer, home, number), number)?;
@@ -141,7 +142,8 @@ impl Sweep {
 // The address that an entry leads to which lets everyone pass.
 fn home_of(k: Kind) -> Option<u64> {
     let access = k.by(Way::Read, 0);
-    let mut memory = k.memory();
+    let mut memory = [0; MEMORY];
+    k.put_tables(&mut memory);
     k.put(&mut memory, k.open());
     match crate::walk(
         &k.record(access),

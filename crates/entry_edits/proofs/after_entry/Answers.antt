@@ -33,5 +33,5 @@ returns c =
     let counted : Session → Session = λ x. with_progress x c.progress_after-next.result in
     let steps = c.put_progress.ensures.holds ∙ ap counted (c.pop_written.ensures.holds ∙ ap left (c.put_injection.ensures.holds ∙ ap written c.put_stack.ensures.holds)) in
     let as_defined : counted (left (written (with_vmcs s (with_stack s.vmcs c.progress-p.result.launched c.args.stack)))) ≡ after_entry s c.args.stack injection =
-    rw (c.progress_after-next.ensures, c.progress-p.ensures, c.front_at-front.ensures, vmcs_after_given (with_stack s.vmcs s.progress.launched c.args.stack) (front_of s.queue) injection) refl in
+    rw (c.progress_after-next.ensures, c.progress-p.ensures, c.front_at-front.ensures, c.bytes.ensures.value, vmcs_after_given (with_stack s.vmcs s.progress.launched c.args.stack) (front_of s.queue) injection) refl in
     record { holds = steps ∙ as_defined; same_reference = search rules }

@@ -21,4 +21,4 @@ after_entry-requires c = let fits = session_fits c.args.b.now.bytes.now (whole _
 
 pub returns : goal.returns
 returns c = let taken = entry_taken _ c.args.stack (sym (rw c.bytes.ensures.value at c.in_ok-entry_refusal.ensures c.args.stack)) in
-    edited c.after_entry.ensures (rw (c.injection_at-injection.ensures, c.progress-p.ensures) (sym taken.1))
+    edited c.after_entry.ensures (rw (c.injection_at-injection.ensures, c.bytes-2.ensures.value, c.progress-p.ensures) (sym taken.1))

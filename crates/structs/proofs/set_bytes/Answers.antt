@@ -1,19 +1,21 @@
-use mathlib.Core.Path.{◌≡◌, refl, sym, ap, ◌∙◌}
-use Prim.Native.Nat.{ℕ, ◌+◌, ◌-◌, ◌*◌}
+use mathlib.Core.Path.{refl, ap, ◌∙◌}
+use mathlib.Core.List.{List}
+use Prim.Native.Nat.{ℕ, ◌*◌}
 use native.Mathlib.Omega.{arith}
-use lib.ListN.{length, take, drop, replicate, length-replicate, length-drop}
-use Rattle.std.proofs.lemmas.List.{length-take-le}
-use Rattle.std.proofs.Common.{rules}
-use Rattle.std.proofs.lemmas.Slice.{put_mid-paste}
-use Rattle.structs.specs.Bitmap.{full_byte, set_bits}
-use Rattle.structs.proofs.BitmapLaws.{filled}
+use lib.ListN.{set, length-set}
+use Rattle.structs.specs.Bitmap.{full_byte}
+use Rattle.structs.proofs.BitmapLaws.{no_bits, next_byte}
 use Rattle.structs.proofs.set_bytes.Goals as goal
 
-pub returns : goal.returns
-returns c = let a = c.args in
-    let n = a.last - a.first in
-    let e : a.first + n ≡ a.last = omega arith in
-    let f : length (take n (drop a.first a.frame.now)) ≡ n = length-take-le n (drop a.first a.frame.now) (omega (arith, length-drop a.first a.frame.now)) in
-    put_mid-paste a.first n a.frame.now _ (replicate n (full_byte a.v)) n (rw (← f, ← c.full_byte.ensures) (c.fill.ensures.after (λ y h. h))) refl (sym (length-replicate n _))
-    ∙ filled a.frame.now a.first n a.v (search rules) (omega arith)
-    ∙ ap (λ (l : ℕ). set_bits a.frame.now (8 * a.first) (8 * l - 8 * a.first) a.v) e
+pub loop-i-init : goal.loop-i-init
+loop-i-init c = (omega arith, omega arith, refl, no_bits _ _ _)
+
+pub loop-i-preserved : goal.loop-i-preserved
+loop-i-preserved c = let a = c.args in (
+  omega arith,
+  omega arith,
+  rw length-set c.loop-i.invariant.2,
+  rw c.full_byte-full.ensures
+      (ap (λ (ys : List ℕ). set ys c.loop-i.i (full_byte a.v)) c.loop-i.invariant.3
+      ∙ next_byte a.frame.now (8 * a.first) c.loop-i.i a.v (λ k. (c.slice_known-1.given k).fits) (omega arith) (omega arith)),
+)

@@ -26,7 +26,7 @@ unfolding queue_step
 returns-else-coded-gt1 c = let a = c.args in
     let e : Event = record { vector = a.vector; coded = eqb a.coded 1; code = a.code } in
     let h : OnRecord (answered (refusal_of c.queue_event.result)) (λ s. queue_event s (event_of (given e))) a.bytes.now c.bytes-1.given.0 =
-    on_record (rw c.then_some.ensures at c.queue_event.ensures) c.new.ensures.value (search rules) in
+    on_record (rw c.new-e.ensures at c.queue_event.ensures) c.new.ensures.value (search rules) in
     called (queue_step a.vector a.coded a.code) c.accepts.ensures c.if-accepts.true (step_stays a.vector a.coded a.code (session_of a.bytes.now))
     (λ i. omega (arith, c.slice_known-1.given i)) (λ i. (c.type_inv.bytes i).fits) (record { accepted = h.accepted; answers = rw (le-ltb _ _ c.if-coded-gt1.false, c.refusal_of.ensures) (h.answers ∙ queue_given _ e) })
 

@@ -34,6 +34,23 @@ impl Print for HostRuntime {
     }
 }
 
+/// What lends itself as a slice.
+pub trait AsSlice<T> {
+    fn as_slice(&self) -> &[T];
+}
+
+impl<T> AsSlice<T> for &[T] {
+    fn as_slice(&self) -> &[T] {
+        self
+    }
+}
+
+impl<T, const N: usize> AsSlice<T> for [T; N] {
+    fn as_slice(&self) -> &[T] {
+        self
+    }
+}
+
 #[macro_export]
 macro_rules! print {
     ($rt:expr; $($text:tt)*) => {

@@ -78,7 +78,8 @@ impl HeldSession {
     }
 
     pub fn read_field(&self, encoding: u64) -> Result<u64, u32>
-        ensures { result ≡ of_reading (read_field self.now.bytes encoding 1) }
+        ensures value { result ≡ of_reading (read_field self.now.bytes encoding 0) }
+        ensures over_one { result ≡ of_reading (read_field self.now.bytes encoding 1) }
     {
         // No field is 1 in a new session: a result that is not written shows.
         let mut value: u64 = 1;

@@ -11,7 +11,7 @@ ghost use Rattle.std.specs.Prelude.{◌≡◌, ◌%◌};
 
 pub use digest::digest_of;
 pub use lines::{answered, print_answer, print_line};
-pub use lists::{List, UnknownList, answer_input, buffer};
+pub use lists::{List, StatefulList, UnknownList, answer_input, answer_input_with_state, buffer};
 use numbers::Numbers;
 use std::io;
 pub use text::{Case, case_at};

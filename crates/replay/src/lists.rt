@@ -6,8 +6,14 @@ use std::fmt::{self, Display, Formatter};
 use std::str::FromStr;
 use std::{io, str};
 
-// A list by the oracle's name. What its cases go on with from one to the next stands beside it: a comment chooses a list, and copies no state.
+// A list by the oracle's name, with what its cases go on with from one to the next. It is parsed anew at each comment.
 pub trait List: FromStr<Err = UnknownList> + Drop {
+    // Prints the answer to one case.
+    fn answer(&mut self, rt: &impl Print, numbers: [u64; 8]) -> io::Result<()>;
+}
+
+// A list by the oracle's name. What its cases go on with from one to the next stands beside it: a comment chooses a list, and copies no state.
+pub trait StatefulList: FromStr<Err = UnknownList> + Drop {
     type State: Drop;
 
     // The state of a program that has answered no case.
@@ -30,27 +36,45 @@ impl Display for UnknownList {
     }
 }
 
-// No list has a longer name.
-const LONGEST_NAME: usize = 32;
-
-// The list whose comment this is: the name stands after `# `, before the first comma. No more of a comment is read than a name may have.
-fn list_of<L: List>(comment: &[u8]) -> Result<L, UnknownList> {
+// The list whose comment this is: the name stands after `# `, before the first comma. No more than `most` bytes are read for the name and its comma.
+fn list_of<L: FromStr<Err = UnknownList>>(comment: &[u8], most: usize) -> Result<L, UnknownList> {
     let rest = comment.strip_prefix(b"# ").ok_or(UnknownList)?;
-    let start = &rest[..rest.len().min(LONGEST_NAME + 1)];
+    let start = &rest[..rest.len().min(most)];
     let end = start.iter().position(|b| *b == b',').ok_or(UnknownList)?;
     let name = str::from_utf8(&rest[..end]).map_err(|_| UnknownList)?;
     name.parse()
 }
 
+// Copies each comment, and prints the answer to each case.
+fn answer_all<L: List>(rt: &impl Print, text: &[u8]) -> io::Result<()> {
+    let mut list: Result<L, UnknownList> = Err(UnknownList);
+    for line in Lines::new(text) {
+        match line {
+            Line::Comment(comment) => {
+                rt.write_all(comment)?;
+                list = list_of(comment, comment.len());
+            }
+            Line::Case(numbers) => match &mut list {
+                Ok(list) => list.answer(rt, numbers)?,
+                Err(unknown) => println!(rt; "{unknown}")?,
+            },
+        }
+    }
+    Ok(())
+}
+
+// No list that has its state beside it has a longer name.
+const LONGEST_NAME: usize = 32;
+
 // Begins the list whose comment this is.
-fn begin<L: List>(comment: &[u8], state: &mut L::State) -> Result<L, UnknownList> {
-    let list = list_of::<L>(comment)?;
+fn begin<L: StatefulList>(comment: &[u8], state: &mut L::State) -> Result<L, UnknownList> {
+    let list = list_of::<L>(comment, LONGEST_NAME + 1)?;
     list.begin(state);
     Ok(list)
 }
 
 // Copies each comment, and prints the answer to each case.
-fn answer_all<L: List>(rt: &impl Print, text: &[u8]) -> io::Result<()> {
+fn answer_all_with_state<L: StatefulList>(rt: &impl Print, text: &[u8]) -> io::Result<()> {
     let mut state = L::new_state();
     let mut list: Result<L, UnknownList> = Err(UnknownList);
     for line in Lines::new(text) {
@@ -80,4 +104,11 @@ pub fn answer_input<L: List>(rt: &(impl Input + Print)) -> io::Result<()> {
     let mut input = buffer();
     let read = streams::fill(&mut rt.reader(), &mut input)?;
     answer_all::<L>(rt, &input[..read])
+}
+
+// Answers the lists on standard input, of which none has a name of more than 32 bytes.
+pub fn answer_input_with_state<L: StatefulList>(rt: &(impl Input + Print)) -> io::Result<()> {
+    let mut input = buffer();
+    let read = streams::fill(&mut rt.reader(), &mut input)?;
+    answer_all_with_state::<L>(rt, &input[..read])
 }

@@ -45,7 +45,7 @@ impl FromStr for List {
     }
 }
 
-impl replay::List for List {
+impl replay::StatefulList for List {
     type State = State;
 
     fn new_state() -> State {
@@ -256,5 +256,5 @@ fn exit_info(rt: &impl Print, numbers: [u64; 8]) -> io::Result<()> {
 }
 
 fn main(rt: HostRuntime) -> io::Result<()> {
-    replay::answer_input::<List>(&rt)
+    replay::answer_input_with_state::<List>(&rt)
 }

@@ -53,7 +53,7 @@ impl FromStr for List {
     }
 }
 
-impl replay::List for List {
+impl replay::StatefulList for List {
     type State = State;
 
     fn new_state() -> State {
@@ -137,5 +137,5 @@ fn msr_intercepts(
 }
 
 fn main(rt: HostRuntime) -> io::Result<()> {
-    replay::answer_input::<List>(&rt)
+    replay::answer_input_with_state::<List>(&rt)
 }

@@ -62,7 +62,7 @@ impl FromStr for List {
     }
 }
 
-impl replay::List for List {
+impl replay::StatefulList for List {
     type State = State;
 
     fn new_state() -> State {
@@ -136,5 +136,5 @@ fn answer_fields(rt: &impl Print, fields: &mut Vmcs, numbers: [u64; 8]) -> io::R
 }
 
 fn main(rt: HostRuntime) -> io::Result<()> {
-    replay::answer_input::<List>(&rt)
+    replay::answer_input_with_state::<List>(&rt)
 }

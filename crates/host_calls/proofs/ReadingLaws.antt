@@ -1,4 +1,4 @@
--- What is read of a session, as a result: whatever its place held before the call, it is the same. Assumes nothing.
+-- What a field is read as does not depend on what the variable lent to the call held before. Assumes nothing.
 use mathlib.Core.Path.{◌≡◌, refl}
 use mathlib.Core.Bool.{Bool, true, false}
 use mathlib.Core.List.{List}

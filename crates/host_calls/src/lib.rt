@@ -77,6 +77,7 @@ impl HeldSession {
         HeldSession { bytes }
     }
 
+    // A field: the same whether the variable that is lent to the call held 0 or 1.
     pub fn read_field(&self, encoding: u64) -> Result<u64, u32>
         ensures value { result ≡ of_reading (read_field self.now.bytes encoding 0) }
         ensures over_one { result ≡ of_reading (read_field self.now.bytes encoding 1) }

@@ -12,7 +12,7 @@ pub trait List: FromStr<Err = UnknownList> + Drop {
     fn answer(&mut self, rt: &impl Print, numbers: [u64; 8]) -> io::Result<()>;
 }
 
-// A list by the oracle's name. What its cases go on with from one to the next stands beside it: a comment chooses a list, and copies no state.
+// A list by the oracle's name, of no more than 32 bytes. What its cases go on with from one to the next stands beside it: a comment chooses a list, and copies no state.
 pub trait StatefulList: FromStr<Err = UnknownList> + Drop {
     type State: Drop;
 
@@ -63,7 +63,7 @@ fn answer_all<L: List>(rt: &impl Print, text: &[u8]) -> io::Result<()> {
     Ok(())
 }
 
-// No list that has its state beside it has a longer name.
+// No `StatefulList` has a longer name.
 const LONGEST_NAME: usize = 32;
 
 // Begins the list whose comment this is.
@@ -106,7 +106,7 @@ pub fn answer_input<L: List>(rt: &(impl Input + Print)) -> io::Result<()> {
     answer_all::<L>(rt, &input[..read])
 }
 
-// Answers the lists on standard input, of which none has a name of more than 32 bytes.
+// Answers the lists on standard input. A comment is not read to its comma where that lies behind the longest name.
 pub fn answer_input_with_state<L: StatefulList>(rt: &(impl Input + Print)) -> io::Result<()> {
     let mut input = buffer();
     let read = streams::fill(&mut rt.reader(), &mut input)?;
